@@ -1,0 +1,40 @@
+-- The paper's Lemma 6: a walk goes from and to positions at most now. Knows the table of walks and nothing of the log's length.
+use native.Mathlib.Omega.{arith}
+use mathlib.Core.Logic.{inl, inr}
+use Rattle.meaning.specs.Theory.{World}
+use Rattle.meaning.specs.Rule.{Walk, act, undo, next, prev, seq, alt, star, check, conv}
+use Rattle.meaning.specs.Leads.{Rel, Leads, Back, Then, Or}
+use Rattle.meaning.proofs.Chain.{Within, many-within}
+
+then-within : {r s : Rel} → Within r → Within s → Within (Then r s)
+then-within f g p q n h = (f p (h .0) n (h .1) .0, g (h .0) q n (h .2) .1)
+
+or-within : {r s : Rel} → Within r → Within s → Within (Or r s)
+or-within f g p q n (inl h) = f p q n h
+or-within f g p q n (inr h) = g p q n h
+
+mutual
+  unfolding Leads
+
+  pub leads-within : (w : World) (x : Walk) → Within (Leads w x)
+  leads-within w (act a) = λ p q n h. omega arith
+  leads-within w (undo a) = λ p q n h. omega arith
+  leads-within w next = λ p q n h. omega arith
+  leads-within w prev = λ p q n h. omega arith
+  leads-within w (seq v x) = then-within (leads-within w v) (leads-within w x)
+  leads-within w (alt v x) = or-within (leads-within w v) (leads-within w x)
+  leads-within w (star x) = many-within (leads-within w x)
+  leads-within w (check t) = λ p q n h. omega arith
+  leads-within w (conv x) = back-within w x
+
+  pub back-within : (w : World) (x : Walk) → Within (Back w x)
+  back-within w (act a) = λ p q n h. omega arith
+  back-within w (undo a) = λ p q n h. omega arith
+  back-within w next = λ p q n h. omega arith
+  back-within w prev = λ p q n h. omega arith
+  -- found by search, for it does not matter here that the order is exchanged
+  back-within w (seq v x) = search (then-within, back-within w v, back-within w x)
+  back-within w (alt v x) = or-within (back-within w v) (back-within w x)
+  back-within w (star x) = many-within (back-within w x)
+  back-within w (check t) = λ p q n h. omega arith
+  back-within w (conv x) = leads-within w x

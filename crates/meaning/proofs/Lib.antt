@@ -1,0 +1,12 @@
+pub mod Chain
+pub mod Bounds
+pub mod Converse
+pub mod Finish
+pub mod Refusal
+pub mod Normal
+pub mod Rewriting
+pub mod Theory
+pub mod Reach
+pub mod Cut
+pub mod Onward
+pub mod Asks

@@ -1,0 +1,9 @@
+pub mod Limits
+pub mod Theory
+pub mod Rule
+pub mod Leads
+pub mod Reach
+pub mod Normal
+pub mod Finish
+pub mod Refusal
+pub mod Asks
