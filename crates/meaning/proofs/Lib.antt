@@ -10,3 +10,4 @@ pub mod Reach
 pub mod Cut
 pub mod Onward
 pub mod Asks
+pub mod Reading
