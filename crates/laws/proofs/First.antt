@@ -4,7 +4,7 @@ use mathlib.Core.Path.{_≡_, refl, sym, ap, ap₂, _∙_}
 use mathlib.Core.Logic.{_↔_}
 use mathlib.Core.Bool.{Bool, true, false, cond, false≢true}
 use Prim.Native.Nat.{ℕ, zero, suc, _/_, _≤_, _<_, suc-le-suc}
-use native.Mathlib.Nat.{le-of-suc-le-suc, not-suc-le-zero}
+use native.Mathlib.Nat.{le-antisymm, le-of-suc-le-suc, lt-of-not-le, not-suc-le-zero}
 use native.Mathlib.Omega.{arith}
 use lib.Count.{trailingZeros, under}
 use Rattle.laws.specs.Bit.{on, firstBelow}
@@ -64,6 +64,12 @@ first-none k f = (
       let nowhere : firstBelow k f < k → ⊥ = λ h. false≢true (sym (none (firstBelow k f) h) ∙ first-found k f h) in
       omega (arith, first-le k f),
 )
+
+-- so where not every one fails, this is one that passes
+pub first-some : (k : ℕ) (f : ℕ → Bool) → (((i : ℕ) → i < k → f i ≡ false) → ⊥) → (i : ℕ) × (i < k) × (f i ≡ true)
+first-some k f h =
+    let there : firstBelow k f < k = lt-of-not-le (λ l. h (first-none k f .0 (le-antisymm (first-le k f) l))) in
+    (firstBelow k f, there, first-found k f there)
 
 -- `trailing_zeros` in a word of k bits
 under-digit : (b : Bool) (t : ℕ) → cond b 0 (suc t) ≡ under (digit b) t

@@ -1,9 +1,9 @@
 -- A number by its binary digits: the lowest one and the rest, two numbers with the same bits are equal, and how many bits a number needs. Every other
 -- law of bits rests on this file, and none but this opens `on`. Knows numbers alone.
 use mathlib.Core.Path.{_≡_, refl, sym, ap, ap₂, _∙_}
-use mathlib.Core.Bool.{Bool, true, false, cond}
+use mathlib.Core.Bool.{Bool, true, false, cond, false≢true}
 use Prim.Native.Nat.{ℕ, zero, suc, _+_, _*_, _/_, _%_, _^_, _≤_, _<_}
-use native.Mathlib.Nat.{add-comm, div-eq-of-lt, div-lt-iff-lt-mul, lt-of-lt-of-le, zero-div}
+use native.Mathlib.Nat.{add-comm, div-eq-of-lt, div-lt-iff-lt-mul, lt-of-lt-of-le, lt-of-not-le, zero-div}
 use native.Mathlib.Numerals.{add-one}
 use native.Mathlib.Omega.{arith}
 use lib.Dec.{eqb}
@@ -72,6 +72,9 @@ same-bits a b h = go (a + b) a b (omega arith) (omega arith) h
 pub on-high : (k : ℕ) {n i : ℕ} → n < 2 ^ k → k ≤ i → on n i ≡ false
 unfolding on
 on-high k h l = rw (div-eq-of-lt (lt-of-lt-of-le h (pow-mono l)))
+
+pub on-below : (k : ℕ) {n i : ℕ} → n < 2 ^ k → on n i ≡ true → i < k
+on-below k h e = lt-of-not-le (λ l. false≢true (sym (on-high k h l) ∙ e))
 
 pub low-enough : (k n : ℕ) → ((i : ℕ) → k ≤ i → on n i ≡ false) → n < 2 ^ k
 low-enough k n h =

@@ -1,7 +1,8 @@
 -- Answers of tests as facts: from `b ≡ true` of a joined answer to its parts and back, and when two answers are one. Knows nothing of what is tested.
 use mathlib.Core.Path.{_≡_, refl, sym, _∙_}
 use mathlib.Core.Logic.{_⊎_, inl, inr, ⊎-elim, _↔_}
-use mathlib.Core.Bool.{Bool, true, false, _&&_, _||_, false≢true}
+use mathlib.Core.Bool.{Bool, true, false, not, _&&_, _||_, false≢true}
+use borrow.Author.Tests.{not-false}
 
 -- two answers that are true together are one
 pub same-truth : (a b : Bool) → (a ≡ true → b ≡ true) → (b ≡ true → a ≡ true) → a ≡ b
@@ -29,3 +30,14 @@ and-iff false b = (λ e. absurd (false≢true e), λ e. e .0)
 pub or-iff : (a b : Bool) → ((a || b) ≡ true) ↔ ((a ≡ true) ⊎ (b ≡ true))
 or-iff true b = (λ e. inl refl, λ e. refl)
 or-iff false b = (inr, ⊎-elim (λ e. absurd (false≢true e)) (λ e. e))
+
+-- a guard that holds wherever the answer is true
+pub and-idle : (a b : Bool) → (b ≡ true → a ≡ true) → (a && b) ≡ b
+and-idle true b f = refl
+and-idle false true f = f refl
+and-idle false false f = refl
+
+-- nothing is left of a without b exactly where a leads to b
+pub implies-iff : (a b : Bool) → ((a && not b) ≡ false) ↔ (a ≡ true → b ≡ true)
+implies-iff true b = (λ e f. not-false b e, λ f. rw (f refl))
+implies-iff false b = (λ e f. absurd (false≢true f), λ f. refl)
