@@ -57,7 +57,7 @@ step-kept w l l′ a p q n e h = record {
   onward = h .onward;
   within = h .within;
   logged = sym (step-cut w l l′ p n e (omega arith)) ∙ h .logged;
-  able = subst (Possible (w .masks a)) (state-cut w l l′ p n e (omega arith)) (h .able);
+  able = subst (Possible _) (state-cut w l l′ p n e (omega arith)) (h .able);
 }
 
 -- a test inside a walk: its own now is from its position up to the outer now

@@ -11,3 +11,10 @@ pub mod Cut
 pub mod Onward
 pub mod Asks
 pub mod Reading
+pub mod Tells
+pub mod Beyond
+pub mod Grid
+pub mod Possible
+pub mod Evaluate
+pub mod Endings
+pub mod Cases

@@ -111,21 +111,24 @@ abbrev step : {A : Type 0} → (ℕ → Shape A) → Reader Walk → Reader Test
 step sign rw rt [] = bad
 step sign rw rt (b ∷ l) = readBy (sign b) rw rt l
 
--- The two readers, with a bound on how deep their calls of one another go. Only this part of the file sees the bound.
-record Readers : Type 0 where
-  walks : Reader Walk
-  tests : Reader Test
+-- The two readers, with a bound on how deep their calls of one another go. Only this part of the file sees the bound. (They open to whoever computes
+-- with them, as the P list does.)
+pub record Readers : Type 0 where
+  pub walks : Reader Walk
+  pub tests : Reader Test
 
-readers : ℕ → Readers
+unfoldable pub readers : ℕ → Readers
 readers zero = record { walks = λ l. bad; tests = λ l. bad }
 readers (suc k) =
     let r = readers k in
     record { walks = step walkSign (r .walks) (r .tests); tests = step testSign (r .walks) (r .tests) }
 
-pub readWalk : Reader Walk
+unfoldable pub readWalk : Reader Walk
+unfolding readers
 readWalk l = readers (length l) .walks l
 
-pub readTest : Reader Test
+unfoldable pub readTest : Reader Test
+unfolding readers
 readTest l = readers (length l) .tests l
 
 -- a reader that takes a byte at least

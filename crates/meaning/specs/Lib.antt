@@ -7,3 +7,4 @@ pub mod Normal
 pub mod Finish
 pub mod Refusal
 pub mod Asks
+pub mod Cases

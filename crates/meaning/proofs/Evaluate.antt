@@ -1,0 +1,173 @@
+-- An evaluator that computes: rows of a walk, with one now, and the value of a test. It is the meaning of document 01, for every world, walk and test.
+-- It asks the definitions themselves for a state, a step and a test's own now, so that a change of one of them changes what is computed.
+use mathlib.Core.Path.{_≡_}
+use mathlib.Core.Logic.{Iff·rfl}
+use mathlib.Core.Bool.{Bool, true, false, not, _&&_}
+use mathlib.Core.Option.{Option, none, some, Option·none-ne-some}
+use Prim.Native.Nat.{ℕ, suc, _+_}
+use native.Mathlib.Omega.{arith}
+use lib.Dec.{eqb, leb}
+use Rattle.laws.specs.Bit.{on, gather}
+use Rattle.meaning.specs.Theory.{Masks, World, after, run, stateAt}
+use Rattle.meaning.specs.Rule.{Walk, Test, act, undo, next, prev, seq, alt, star, check, conv, always, fluent, neg, both, diamond}
+use Rattle.meaning.specs.Leads.{Rel, Truth, Taken, Step, Crossed, AnyStep, Here, ownNow, Some, Leads, Back, Holds}
+use Rattle.meaning.proofs.Chain.{Within}
+use Rattle.meaning.proofs.Bounds.{leads-within, back-within}
+use Rattle.meaning.proofs.Tells.{Tells, true-tells, false-tells, eq-tells, le-tells, and-tells, not-tells, tells-as, anyBelow, any-tells}
+use Rattle.meaning.proofs.Possible.{possible, possible-tells}
+use Rattle.meaning.proofs.Grid.{Grid, Draws, kept, kept-draws, turnedGrid, turned-draws, thenGrid, then-draws, orGrid, or-draws, manyGrid, many-draws}
+
+-- The leaves of the table of walks
+
+unfoldable pub isStep : Option ℕ → ℕ → Bool
+isStep none a = false
+isStep (some b) a = eqb b a
+
+isStep-tells : (step : Option ℕ) (a : ℕ) → Tells (isStep step a) (step ≡ some a)
+unfolding isStep
+isStep-tells none a = false-tells (Option·none-ne-some a)
+isStep-tells (some b) a = tells-as (eq-tells b a) (λ e. cc) (λ e. cc)
+
+-- What a leaf asks is read off the definition: `the (Step w a p q n)` hands on the step, the masks and the state that Step gives to Taken.
+pub data The (X : Type 0) : Type 0 where
+  it : The X
+
+pub the : (X : Type 0) → The X
+the X = it
+
+unfoldable pub taken : {step : Option ℕ} {m : Masks} {state a p q n : ℕ} → The (Taken step m state a p q n) → Bool
+unfolding isStep possible
+taken {step} {m} {state} {a} {p} {q} {n} asked = eqb q (p + 1) && (leb q n && (isStep step a && possible m state))
+
+taken-tells : {step : Option ℕ} {m : Masks} {state a p q n : ℕ} (asked : The (Taken step m state a p q n)) → Tells (taken asked) (Taken step m state a p q n)
+unfolding taken
+taken-tells {step} {m} {state} {a} {p} {q} {n} asked =
+    tells-as (and-tells (eq-tells q (p + 1)) (and-tells (le-tells q n) (and-tells (isStep-tells step a) (possible-tells m state))))
+    (λ h. record { onward = h .0; within = h .1 .0; logged = h .1 .1 .0; able = h .1 .1 .1 })
+    (λ h. (h .onward, (h .within, (h .logged, h .able))))
+
+unfoldable pub crossed : {p q n : ℕ} → The (Crossed p q n) → Bool
+crossed {p} {q} {n} asked = eqb q (p + 1) && leb q n
+
+crossed-tells : {p q n : ℕ} (asked : The (Crossed p q n)) → Tells (crossed asked) (Crossed p q n)
+unfolding crossed
+crossed-tells {p} {q} {n} asked =
+    tells-as (and-tells (eq-tells q (p + 1)) (le-tells q n)) (λ h. record { onward = h .0; within = h .1 }) (λ h. (h .onward, h .within))
+
+unfoldable pub stepGrid : World → ℕ → Grid
+unfolding kept taken run after gather on
+stepGrid w a = kept (λ n p q. taken (the (Step w a p q n)))
+
+step-draws : (w : World) (a : ℕ) → Draws (stepGrid w a) (Step w a)
+unfolding stepGrid
+step-draws w a = kept-draws (λ p q n h. omega arith) (λ p q n. taken-tells (the (Step w a p q n)))
+
+unfoldable pub anyGrid : World → Grid
+unfolding kept crossed
+anyGrid w = kept (λ n p q. crossed (the (AnyStep w p q n)))
+
+any-draws : (w : World) → Draws (anyGrid w) (AnyStep w)
+unfolding anyGrid
+any-draws w = kept-draws (λ p q n h. omega arith) (λ p q n. crossed-tells (the (AnyStep w p q n)))
+
+-- a test's value, with each now and then; and that it is the test's truth
+abbrev pub Value : Type 0
+Value = ℕ → ℕ → Bool
+
+abbrev pub Gives : Value → Truth → Type 0
+Gives v x = (t n : ℕ) → Tells (v n t) (x t n)
+
+unfoldable pub hereGrid : World → Value → Grid
+unfolding kept ownNow
+hereGrid w v = kept (λ n p q. let answer = v (ownNow w p n) p in eqb q p && (leb p n && answer))
+
+here-draws : {x : Truth} {v : Value} (w : World) → Gives v x → Draws (hereGrid w v) (Here w x)
+unfolding hereGrid
+here-draws w f =
+    kept-draws (λ p q n h. omega arith)
+    (λ p q n.
+    tells-as (and-tells (eq-tells q p) (and-tells (le-tells p n) (f p (ownNow w p n)))) (λ h. (h .0, h .1 .0, h .1 .1)) (λ h. (h .0, (h .1, h .2))))
+
+unfoldable pub notValue : Value → Value
+notValue v n = let value = v n in λ t. not (value t)
+
+unfoldable pub bothValue : Value → Value → Value
+bothValue v u n = let one = v n in let other = u n in λ t. one t && other t
+
+unfoldable pub someValue : Grid → Value → Value
+unfolding anyBelow
+someValue g v n = let there = g n in let value = v n in λ t. anyBelow (suc n) (λ q. there t q && value q)
+
+some-gives : {r : Rel} {x : Truth} {g : Grid} {v : Value} → Within r → Draws g r → Gives v x → Gives (someValue g v) (Some r x)
+unfolding someValue
+some-gives low f k t n =
+    tells-as (any-tells (λ q. and-tells (f t q n) (k q n)) (suc n)) (λ h. (h .0, h .2 .0, h .2 .1))
+    (λ h. (h .0, omega (arith, low t (h .0) n (h .1)), (h .1, h .2)))
+
+-- The evaluator, sign by sign, as the two tables have it
+
+unfoldable mutual
+  unfolding stepGrid turnedGrid anyGrid thenGrid orGrid manyGrid hereGrid notValue bothValue someValue run after gather on
+
+  pub leadsGrid : World → Walk → Grid
+  leadsGrid w (act a) = stepGrid w a
+  leadsGrid w (undo a) = turnedGrid (stepGrid w a)
+  leadsGrid w next = anyGrid w
+  leadsGrid w prev = turnedGrid (anyGrid w)
+  leadsGrid w (seq v x) = thenGrid (leadsGrid w v) (leadsGrid w x)
+  leadsGrid w (alt v x) = orGrid (leadsGrid w v) (leadsGrid w x)
+  leadsGrid w (star x) = manyGrid (leadsGrid w x)
+  leadsGrid w (check t) = hereGrid w (valueOf w t)
+  leadsGrid w (conv x) = backGrid w x
+
+  pub backGrid : World → Walk → Grid
+  backGrid w (act a) = turnedGrid (stepGrid w a)
+  backGrid w (undo a) = stepGrid w a
+  backGrid w next = turnedGrid (anyGrid w)
+  backGrid w prev = anyGrid w
+  backGrid w (seq v x) = thenGrid (backGrid w x) (backGrid w v)
+  backGrid w (alt v x) = orGrid (backGrid w v) (backGrid w x)
+  backGrid w (star x) = manyGrid (backGrid w x)
+  backGrid w (check t) = hereGrid w (valueOf w t)
+  backGrid w (conv x) = leadsGrid w x
+
+  pub valueOf : World → Test → Value
+  valueOf w always = λ n t. true
+  valueOf w (fluent i) = λ n t. on (stateAt w t) i
+  valueOf w (neg x) = notValue (valueOf w x)
+  valueOf w (both x y) = bothValue (valueOf w x) (valueOf w y)
+  valueOf w (diamond v x) = someValue (leadsGrid w v) (valueOf w x)
+
+-- The evaluator is the meaning
+
+mutual
+  unfolding leadsGrid Leads
+
+  pub leads-draws : (w : World) (x : Walk) → Draws (leadsGrid w x) (Leads w x)
+  leads-draws w (act a) = step-draws w a
+  leads-draws w (undo a) = turned-draws (step-draws w a)
+  leads-draws w next = any-draws w
+  leads-draws w prev = turned-draws (any-draws w)
+  leads-draws w (seq v x) = then-draws (leads-within w v) (leads-within w x) (leads-draws w v) (leads-draws w x)
+  leads-draws w (alt v x) = or-draws (leads-draws w v) (leads-draws w x)
+  leads-draws w (star x) = many-draws (leads-within w x) (leads-draws w x)
+  leads-draws w (check t) = here-draws w (value-gives w t)
+  leads-draws w (conv x) = back-draws w x
+
+  pub back-draws : (w : World) (x : Walk) → Draws (backGrid w x) (Back w x)
+  back-draws w (act a) = turned-draws (step-draws w a)
+  back-draws w (undo a) = step-draws w a
+  back-draws w next = turned-draws (any-draws w)
+  back-draws w prev = any-draws w
+  back-draws w (seq v x) = then-draws (back-within w x) (back-within w v) (back-draws w x) (back-draws w v)
+  back-draws w (alt v x) = or-draws (back-draws w v) (back-draws w x)
+  back-draws w (star x) = many-draws (back-within w x) (back-draws w x)
+  back-draws w (check t) = here-draws w (value-gives w t)
+  back-draws w (conv x) = leads-draws w x
+
+  pub value-gives : (w : World) (x : Test) → Gives (valueOf w x) (Holds w x)
+  value-gives w always = λ t n. true-tells tt
+  value-gives w (fluent i) = λ t n. Iff·rfl
+  value-gives w (neg x) = λ t n. not-tells (value-gives w x t n)
+  value-gives w (both x y) = λ t n. and-tells (value-gives w x t n) (value-gives w y t n)
+  value-gives w (diamond v x) = some-gives (leads-within w v) (leads-draws w v) (value-gives w x)

@@ -1,0 +1,124 @@
+-- Document 01, "Examples on that theory": every row marked P, in the document's order, and what each says about the meaning. A case gives its rule
+-- as the document writes it; what it says is said of the rule that this text spells.
+use mathlib.Core.Path.{_≡_}
+use mathlib.Core.List.{List, [], _∷_}
+use Prim.Native.Nat.{ℕ}
+use Prim.Native.String.{String}
+use lib.ListN.{getD}
+use Rattle.laws.specs.Text.{bytes}
+use Rattle.meaning.specs.Theory.{Masks, World}
+use Rattle.meaning.specs.Rule.{Walk, Test, Rule, Kind, testKind, walkKind, jobKind, ofTest, ofWalk, Opens, text}
+use Rattle.meaning.specs.Leads.{Holds}
+use Rattle.meaning.specs.Reach.{Reached}
+use Rattle.meaning.specs.Normal.{normalRule}
+use Rattle.meaning.specs.Finish.{First, None}
+
+-- The theory of the example sheet: two fluents, three actions, nothing on at the start
+
+-- an `act=` line: "need, ban, put, drop"
+abbrev pub masksOf : ℕ → ℕ → ℕ → ℕ → Masks
+masksOf need ban put drop = record { need = need; ban = ban; put = put; drop = drop }
+
+abbrev pub actions : List Masks
+actions = masksOf 0 0 1 0 ∷ masksOf 1 0 2 0 ∷ masksOf 0 0 0 3 ∷ []
+
+abbrev pub jobWith : List ℕ → World
+jobWith log = record { fluents = 2; actions = 3; masks = λ a. getD actions a (masksOf 0 0 0 0); start = 0; log = log }
+
+-- "L is the log 00 01 02 00 (states 0, 1, 3, 0, 1), M is 01 00 (states 0, 2, 3), E is empty."
+abbrev pub L : List ℕ
+L = 0 ∷ 1 ∷ 2 ∷ 0 ∷ []
+
+abbrev pub M : List ℕ
+M = 1 ∷ 0 ∷ []
+
+abbrev pub E : List ℕ
+E = []
+
+-- the sheet's `ask=` line, "the ask above"
+abbrev pub ask : String
+ask = "<-;a00*n!<;*na011"
+
+-- The cases
+
+pub data Verdict : Type 0 where
+  yes no : Verdict
+
+pub data Finished : Type 0 where
+  sequence : List ℕ → Finished
+  refusal : ℕ → Finished
+
+pub data Case : Type 0 where
+  -- log, walk, then, now: set, count, earliest
+  reach : List ℕ → String → ℕ → ℕ → ℕ → ℕ → ℕ → Case
+  -- log, test, then, now: verdict
+  verdict : List ℕ → String → ℕ → ℕ → Verdict → Case
+  -- kind, rule: normal form
+  form : Kind → String → String → Case
+  -- log, job, more: the sequence or the refusal
+  finish : List ℕ → String → ℕ → Finished → Case
+
+-- "Now is the end unless given. P marks cases to be proved." Where the document names the set alone, count and earliest are the set's.
+abbrev pub cases : List Case
+cases =
+    reach L "a00" 0 4 2 1 1
+    ∷ reach L "a00" 1 4 0 0 64
+    ∷ reach L "r00" 4 4 8 1 3
+    ∷ reach L "*n" 2 4 28 3 2
+    ∷ reach L "*u" 2 4 7 3 0
+    ∷ reach L "-;a00*n" 4 4 9 2 0
+    ∷ verdict L ask 4 4 yes
+    ∷ verdict L ask 2 2 no
+    ∷ verdict L ask 1 1 yes
+    ∷ verdict L ask 1 4 no
+    ∷ reach L "?<a011" 1 4 0 0 64
+    ∷ verdict L "<a011" 1 4 yes
+    ∷ reach M "a01" 0 2 0 0 64
+    ∷ reach M "n" 0 2 2 1 1
+    ∷ reach M "a00" 1 2 4 1 2
+    ∷ reach E "*n" 0 0 1 1 0
+    ∷ verdict E "f00" 0 0 no
+    ∷ form walkKind "-;a00*n" ";*ur00"
+    ∷ form walkKind "--a01" "a01"
+    ∷ form walkKind "-r02" "a02"
+    ∷ form walkKind "-?<-a011" "?<r011"
+    ∷ finish E ";a00a01" 2 (sequence (0 ∷ 1 ∷ []))
+    ∷ finish E ";a00a01" 1 (refusal 11)
+    ∷ []
+
+-- What a case says
+
+-- the bytes are one rule of this kind and no other, and this is said of it
+pub record Spelled (kind : Kind) (spelling : List ℕ) (Said : Rule → Type 0) : Type 0 where
+  pub rule : Rule
+  pub opens : Opens kind spelling rule []
+  pub only : (other : Rule) → Opens kind spelling other [] → other ≡ rule
+  pub said : Said rule
+
+abbrev pub OfWalk : (Walk → Type 0) → Rule → Type 0
+OfWalk Said (ofTest t) = ⊥
+OfWalk Said (ofWalk w) = Said w
+
+abbrev pub OfTest : (Test → Type 0) → Rule → Type 0
+OfTest Said (ofTest t) = Said t
+OfTest Said (ofWalk w) = ⊥
+
+abbrev pub Told : Verdict → Type 0 → Type 0
+Told yes X = X
+Told no X = ¬ X
+
+-- 11: "finish: no such sequence"
+abbrev pub Ends : World → ℕ → Finished → Walk → Type 0
+Ends w more (sequence ending) job = First w job more ending
+Ends w more (refusal number) job = (number ≡ 11) × None w job more
+
+abbrev pub Says : Case → Type 0
+Says (reach log walk t n set count earliest) =
+    Spelled walkKind (bytes walk) (OfWalk (λ x. Reached (jobWith log) x t n set count earliest))
+Says (verdict log test t n answer) = Spelled testKind (bytes test) (OfTest (λ x. Told answer (Holds (jobWith log) x t n)))
+Says (form kind rule normal) = Spelled kind (bytes rule) (λ x. text (normalRule x) ≡ bytes normal)
+Says (finish log job more ending) = Spelled jobKind (bytes job) (OfWalk (Ends (jobWith log) more ending))
+
+abbrev pub AllSay : List Case → Type 0
+AllSay [] = Unit {0}
+AllSay (c ∷ rest) = Says c × AllSay rest
