@@ -1,0 +1,67 @@
+-- `theory::state` meets its contract: the world's number stands, then the position decides, and past both the state is read off the log.
+use mathlib.Core.Path.{refl, subst}
+use mathlib.Core.Logic.{inl, inr}
+use mathlib.Core.List.{List, [], _∷_}
+use Prim.Native.Nat.{_<_}
+use native.Mathlib.Omega.{arith}
+use borrow.Author.Needs.{needs}
+use denote.Ref.{now}
+use lib.ListN.{length}
+use Rattle.meaning.specs.Refusal.{Row, _when_, Accepted}
+use Rattle.meaning.proofs.Refusal.{here, passes, accepts}
+use Rattle.theory.specs.Rows.{worldRows}
+use Rattle.theory.specs.Check.{Settled}
+use Rattle.theory.proofs.Settle.{refused-first, refused-second, accepted-both}
+use Rattle.theory.proofs.Reading.{checked, readable}
+use Rattle.theory.proofs.state.Statement.{statement}
+use Rattle.theory.proofs.state.Tie as tie
+
+check-world-requires : tie.Need-check-world-requires
+check-world-requires c κs = search needs
+
+enum-known-r : tie.Need-enum-known-r
+enum-known-r c = search needs
+
+enum-told : tie.Need-enum-told
+enum-told c = search needs
+
+-- the rows of the world and of the position, at the arguments
+abbrev first : tie.Start → List {1} Row
+first c = worldRows (c .args .fluents) (c .args .actions) (c .args .start) (now (c .args .masks)) (now (c .args .log))
+
+abbrev second : tie.Start → List {1} Row
+second c = (10 when (length (now (c .args .log)) < c .args .position)) ∷ []
+
+-- the world is sound, in that arm
+sound : (c : tie.After-enum-told) → Accepted (first (c .before .before .before .before .before))
+sound c = subst (Settled (first (c .before .before .before .before .before))) (c .enum-told .given .1) (c .before .before .check-world .ensures)
+
+returns : tie.Need-returns
+returns c =
+    let start = c .before .before .before .before .before .before in
+    let late : length (now (start .args .log)) < start .args .position = omega arith in
+    inl (refused-second (first start) (second start) (sound (c .before)) (here tt late), refl)
+
+state-at-requires : tie.Need-state-at-requires
+state-at-requires c κs = (c .if1 .left, readable (checked _ _ _ _ _ (sound (c .before))))
+
+returns-2 : tie.Need-returns-2
+returns-2 c =
+    let start = c .before .before .before .before .before .before in
+    let told = subst (Settled (first start)) (c .before .r .given .1) (c .before .before .before .check-world .ensures) in
+    inl (refused-first (first start) (second start) 5 tt tt told, refl)
+
+returns-3 : tie.Need-returns-3
+returns-3 c =
+    let start = c .before .before .before .before .before .before .before in
+    let within : length (now (start .args .log)) < start .args .position → ⊥ = λ h. omega arith in
+    inr (
+      refl,
+      accepted-both (first start) (second start) (sound (c .before .before)) (passes within accepts),
+      c .state-at .ensures (start .args .fluents) (start .args .actions),
+    )
+
+pub state-spec : {M : Type 1} → statement M
+state-spec =
+    tie.close
+    (tie.spec check-world-requires enum-known-r enum-told returns state-at-requires returns-2 returns-3)

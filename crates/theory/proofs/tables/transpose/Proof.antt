@@ -1,0 +1,112 @@
+-- `theory::tables::transpose` meets its contract. The loop's invariant: the state is that at position p, and the tables are those of the positions
+-- before p.
+use mathlib.Core.Path.{_≡_, sym, _∙_, ap}
+use mathlib.Core.List.{List}
+use Prim.Native.Nat.{ℕ, _+_, _*_, _≤_, _<_, _-_}
+use native.Mathlib.Omega.{arith}
+use denote.Ref.{now}
+use lib.ListN.{length, getD}
+use Rattle.meaning.specs.Theory.{World, after, stateAt}
+use Rattle.meaning.proofs.Theory.{state-start, state-step}
+use Rattle.theory.specs.World.{stride, worldOf}
+use Rattle.theory.proofs.Transposed.{TakenBelow, ShownBelow, taken-none, taken-more, shown-none, shown-more, describes, recount}
+use Rattle.theory.proofs.tables.transpose.Statement.{statement}
+use Rattle.theory.proofs.tables.transpose.Tie as tie
+
+-- the world, but for the counts, which no table depends on
+abbrev world : ℕ → List ℕ → List ℕ → World
+world start masks log = worldOf 0 0 start masks log
+
+abbrev Inv-loop : tie.InvT-loop
+Inv-loop masks start log done₀ lit₀ state₀ p₀ done lit state p =
+    (p ≤ length log)
+    × (state ≡ stateAt (world start masks log) p)
+    × TakenBelow (world start masks log) done p
+    × ShownBelow (world start masks log) lit p
+
+abbrev μ-loop : tie.MeasureT-loop
+μ-loop masks start log done₀ lit₀ state₀ p₀ done lit state p = length log - p
+
+loop-holds : tie.Need-loop-holds Inv-loop μ-loop
+loop-holds c =
+    let a = c .before .before .before .before .args in
+    let w = world (a .start) (now (a .masks)) (now (a .log)) in
+    (omega arith, sym (state-start w), taken-none w, shown-none w)
+
+show-requires : tie.Need-show-requires Inv-loop μ-loop
+show-requires c κs = (c .before .before .loop .inv .3 .room, omega (arith, c .before .loop-test .taken, c .before .before .before .before .before .before .before .pre .short))
+
+shared-slice-read-a : tie.Need-shared-slice-read-a Inv-loop μ-loop
+shared-slice-read-a c = c .before .before .before .loop-test .taken
+
+cast-a : tie.Need-cast-a Inv-loop μ-loop
+cast-a c = omega (arith, c .shared-slice-known3 .given (c .before .before .before .before .loop .p))
+
+-- the table has the masks of the step at p
+covered : (c : tie.In-loop Inv-loop μ-loop)
+    → stride * getD (now (c .before .before .before .before .before .before .args .log)) (c .before .loop .p) 0 + stride ≤ length (now (c .before .before .before .before .before .before .args .masks))
+covered c = c .before .before .before .before .before .before .pre .covered (c .before .loop .p) (c .loop-test .taken)
+
+able-requires : tie.Need-able-requires Inv-loop μ-loop
+able-requires c κs = covered (c .before .before .before)
+
+note-requires : tie.Need-note-requires Inv-loop μ-loop
+note-requires c κs =
+    let loop = c .before .before .before .before .before .before .loop in
+    let start = c .before .before .before .before .before .before .before .before .before .before .before in
+    let within : loop .p < length (now (start .args .log)) = c .before .before .before .before .before .loop-test .taken in
+    (loop .inv .2 .room, start .pre .known (loop .p) within, omega (arith, start .pre .short))
+
+act-requires : tie.Need-act-requires Inv-loop μ-loop
+act-requires c κs = covered (c .before .before .before .before .before .before)
+
+add-p : tie.Need-add-p Inv-loop μ-loop
+add-p c = omega (arith, c .before .before .before .before .before .before .before .loop-test .taken, c .before .before .before .before .before .before .before .before .before .before .before .before .before .pre .short)
+
+loop-less : tie.Need-loop-less Inv-loop μ-loop
+loop-less c = omega (arith, c .before .before .before .before .before .before .before .loop-test .taken)
+
+loop-again : tie.Need-loop-again Inv-loop μ-loop
+loop-again c =
+    let turn = c .before .before .before .before .before .before .before in
+    let loop = turn .before .loop in
+    let a = c .before .before .before .before .before .before .before .before .before .before .before .before .before .args in
+    let w = world (a .start) (now (a .masks)) (now (a .log)) in
+    let within : loop .p < length (now (a .log)) = turn .loop-test .taken in (
+      omega arith,
+      c .act .ensures ∙ ap (after _) (loop .inv .1) ∙ sym (state-step w (loop .p) within),
+      taken-more w within (loop .inv .1) (c .before .before .before .able .ensures) (c .before .note .ensures) (loop .inv .2),
+      shown-more w (loop .inv .1) (c .before .before .before .before .before .show .ensures) (loop .inv .3),
+    )
+
+show-requires-2 : tie.Need-show-requires-2 Inv-loop μ-loop
+show-requires-2 c κs = (c .before .before .loop .inv .3 .room, omega (arith, c .before .before .loop .inv .0, c .before .before .before .before .before .before .before .pre .short))
+
+returns : tie.Need-returns Inv-loop μ-loop
+returns c fluents actions =
+    let loop = c .before .before .before .loop in
+    let a = c .before .before .before .before .before .before .before .before .args in
+    let w = world (a .start) (now (a .masks)) (now (a .log)) in
+    let ends : loop .p ≡ length (now (a .log)) = omega (arith, c .before .before .loop-test .left, loop .inv .0) in
+    let all = shown-more w (loop .inv .1) (c .show2 .ensures) (loop .inv .3) in
+    recount 0 0 fluents actions (a .start) (now (a .masks)) (now (a .log))
+    (describes w ends (loop .inv .2) all)
+
+pub transpose-spec : {M : Type 1} → statement M
+transpose-spec =
+    tie.close
+    (tie.spec
+    Inv-loop
+    μ-loop
+    loop-holds
+    show-requires
+    shared-slice-read-a
+    cast-a
+    able-requires
+    note-requires
+    act-requires
+    add-p
+    loop-less
+    loop-again
+    show-requires-2
+    returns)

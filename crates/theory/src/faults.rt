@@ -1,0 +1,113 @@
+// Refusals 3, 4 and 5, as every call about a world gives them: counts and table, masks, log. Each fault is one test; the checks put them in the order of
+// their numbers.
+ghost use mathlib.Core.Path.{_≡_};
+ghost use mathlib.Core.Logic.{_↔_};
+ghost use mathlib.Core.Bool.{true};
+ghost use Prim.Native.Nat.{_<_};
+ghost use lib.ListN.{length};
+ghost use Rattle.meaning.specs.Refusal.{BadCounts, NamesLacking, BadMasks, BadLog};
+ghost use Rattle.theory.specs.Rows.{theoryRows, worldRows};
+ghost use Rattle.theory.specs.Check.{Settled};
+ghost use Rattle.theory.specs.Union.{Union};
+use crate::ACTION_LIMIT;
+use crate::Check;
+use crate::FLUENT_LIMIT;
+use crate::LOG_LIMIT;
+use crate::STRIDE;
+use refusal::Refusal;
+
+// A count is out of its range.
+pub fn bad_counts(fluents: usize, actions: usize) -> bool
+    ensures { λ r. ⌜ (r ≡ true) ↔ BadCounts fluents actions ⌝ }
+{
+    if FLUENT_LIMIT < fluents {
+        return true;
+    }
+    if actions < 1 {
+        return true;
+    }
+    ACTION_LIMIT < actions
+}
+
+// All fluents that the masks name, in one mask.
+pub fn union(masks: &[u32]) -> u32
+    ensures { λ r. ⌜ Union (now (masks .entry)) (length (now (masks .entry))) r ⌝ }
+{
+    let mut all = 0;
+    let mut i = 0;
+    while i < masks.len() {
+        let mask = masks[i];
+        all = all | mask;
+        i += 1;
+    }
+    all
+}
+
+// A mask names a fluent that a theory of so many fluents lacks.
+pub fn names_lacking(fluents: usize, mask: u32) -> bool
+    requires { ⌜ fluents < 64 ⌝ }
+    ensures { λ r. ⌜ (r ≡ true) ↔ NamesLacking fluents mask ⌝ }
+{
+    let wide = mask as u64;
+    let beyond = wide >> fluents;
+    beyond != 0
+}
+
+// Start or a mask of the table names a fluent that the theory lacks.
+pub fn bad_masks(fluents: usize, start: u32, masks: &[u32]) -> bool
+    requires { ⌜ fluents < 64 ⌝ }
+    ensures { λ r. ⌜ (r ≡ true) ↔ BadMasks fluents start (now (masks .entry)) ⌝ }
+{
+    let all = union(masks);
+    let named = start | all;
+    names_lacking(fluents, named)
+}
+
+// The log is too long, or has an action that the theory lacks.
+pub fn bad_log(actions: usize, log: &[u8]) -> bool
+    ensures { λ r. ⌜ (r ≡ true) ↔ BadLog actions (now (log .entry)) ⌝ }
+{
+    if LOG_LIMIT < log.len() {
+        return true;
+    }
+    let mut i = 0;
+    while i < log.len() {
+        let a = log[i] as usize;
+        if actions <= a {
+            return true;
+        }
+        i += 1;
+    }
+    false
+}
+
+// The counts and the table's length, then what the masks name.
+pub fn check_theory(fluents: usize, actions: usize, start: u32, masks: &[u32]) -> Check
+    ensures { λ r. ⌜ Settled (theoryRows fluents actions start (now (masks .entry))) r ⌝ }
+{
+    if bad_counts(fluents, actions) {
+        return Check::Refused(Refusal::BadNumber);
+    }
+    if masks.len() != STRIDE * actions {
+        return Check::Refused(Refusal::BadNumber);
+    }
+    if bad_masks(fluents, start, masks) {
+        return Check::Refused(Refusal::LacksFluent);
+    }
+    Check::Sound
+}
+
+// The theory, then the log.
+pub fn check_world(fluents: usize, actions: usize, start: u32, masks: &[u32], log: &[u8]) -> Check
+    ensures { λ r. ⌜ Settled (worldRows fluents actions start (now (masks .entry)) (now (log .entry))) r ⌝ }
+{
+    match check_theory(fluents, actions, start, masks) {
+        Check::Refused(r) => Check::Refused(r),
+        Check::Sound => {
+            if bad_log(actions, log) {
+                return Check::Refused(Refusal::BadLog);
+            }
+            Check::Sound
+        }
+    }
+}
