@@ -1,0 +1,133 @@
+-- The evaluator's arms, sign by sign: what its parts' answers make of the answer for the whole sign, forwards and backwards. Opens the meaning's table;
+-- knows no text and no code.
+use mathlib.Core.Path.{_≡_, refl, sym, subst, _∙_}
+use mathlib.Core.Logic.{_↔_, _⊎_, inl, inr}
+use mathlib.Core.Bool.{Bool, true, false, not, false≢true, _&&_, _||_}
+use mathlib.Core.Option.{some}
+use Prim.Native.Nat.{ℕ, _+_, _≤_, _<_}
+use native.Mathlib.Omega.{arith}
+use Rattle.meaning.specs.Theory.{World, Possible, stepAt, stateAt}
+use Rattle.meaning.specs.Rule.{Walk, Test, act, undo, next, prev, seq, alt, star, check, conv, always, fluent, neg, both, diamond}
+use Rattle.laws.specs.Bit.{on}
+use Rattle.meaning.specs.Leads.{Rel, Leads, Back, Holds, Step, AnyStep, Many, Here}
+use Rattle.meaning.proofs.Chain.{Within}
+use Rattle.meaning.proofs.Bounds.{leads-within, back-within}
+use Rattle.meaning.proofs.Converse.{back-exchanged}
+use Rattle.ask.specs.Image.{Set, UpTo, Image, Sifted, Turn, Way, Crossing}
+use Rattle.laws.proofs.Truth.{and-iff}
+use Rattle.ask.proofs.Image.{image-same, then-image, or-image, many-many, always-sifted, not-sifted, both-sifted, some-sifted}
+
+pub way-within : (w : World) (x : Walk) (back : Bool) → Within (Way w x back)
+way-within w x false = leads-within w x
+way-within w x true = back-within w x
+
+-- `aNN`, `rNN`: of the positions before now, those whose step is NN and was possible
+abbrev pub Done : World → ℕ → ℕ → Set → Type 0
+Done w a n c = (p : ℕ) → p < n → (c p ≡ true) ↔ ((stepAt w p ≡ some a) × Possible (w .masks a) (stateAt w p))
+
+step-crossing : (w : World) (a n : ℕ) (c : Set) → Done w a n c → (p q : ℕ) → Crossing c p q n ↔ Step w a p q n
+step-crossing w a n c done p q = (
+  λ h. let onward : q ≡ p + 1 = h .0 in
+      let within : q ≤ n = h .1 in
+      let u = done p (omega arith) .0 (h .2) in
+      record { onward = onward; within = within; logged = u .0; able = u .1 },
+  λ h. (h .onward, h .within, done p (omega arith) .1 (h .logged, h .able)),
+)
+
+pub act-image : (w : World) (a : ℕ) (back : Bool) {n : ℕ} {c s r : Set} → Done w a n c → Image (Turn back (Crossing c)) n s r → Image (Way w (act a) back) n s r
+unfolding Leads
+act-image w a false {n} {c} done i = image-same (step-crossing w a n c done) i
+act-image w a true {n} {c} done i = image-same (λ p q. step-crossing w a n c done q p) i
+
+pub undo-image : (w : World) (a : ℕ) (back : Bool) {n : ℕ} {c s r : Set} → Done w a n c → Image (Turn (not back) (Crossing c)) n s r → Image (Way w (undo a) back) n s r
+unfolding Leads
+undo-image w a false {n} {c} done i = image-same (λ p q. step-crossing w a n c done q p) i
+undo-image w a true {n} {c} done i = image-same (step-crossing w a n c done) i
+
+-- `n`, `u`: all positions before now
+abbrev pub Any : World → ℕ → Set → Type 0
+Any w n c = (p : ℕ) → p < n → c p ≡ true
+
+any-crossing : (w : World) (n : ℕ) (c : Set) → Any w n c → (p q : ℕ) → Crossing c p q n ↔ AnyStep w p q n
+any-crossing w n c any p q = (λ h. record { onward = h .0; within = h .1 }, λ h. (h .onward, h .within, any p (omega arith)))
+
+pub next-image : (w : World) (back : Bool) {n : ℕ} {c s r : Set} → Any w n c → Image (Turn back (Crossing c)) n s r → Image (Way w next back) n s r
+unfolding Leads
+next-image w false {n} {c} any i = image-same (any-crossing w n c any) i
+next-image w true {n} {c} any i = image-same (λ p q. any-crossing w n c any q p) i
+
+pub prev-image : (w : World) (back : Bool) {n : ℕ} {c s r : Set} → Any w n c → Image (Turn (not back) (Crossing c)) n s r → Image (Way w prev back) n s r
+unfolding Leads
+prev-image w false {n} {c} any i = image-same (λ p q. any-crossing w n c any q p) i
+prev-image w true {n} {c} any i = image-same (any-crossing w n c any) i
+
+-- `;VW`: in order, and backwards exchanged
+pub seq-image : (w : World) (v x : Walk) (back : Bool) {n : ℕ} {s a r : Set} → back ≡ false → Image (Way w v back) n s a → Image (Way w x back) n a r → Image (Way w (seq v x) back) n s r
+unfolding Leads
+seq-image w v x false e i j = then-image i j
+seq-image w v x true e i j = absurd (false≢true (sym e))
+
+pub seq-back : (w : World) (v x : Walk) (back : Bool) {n : ℕ} {s a r : Set} → back ≡ true → Image (Way w x back) n s a → Image (Way w v back) n a r → Image (Way w (seq v x) back) n s r
+unfolding Leads
+seq-back w v x true e i j = then-image i j
+seq-back w v x false e i j = absurd (false≢true e)
+
+-- `|VW`
+pub alt-image : (w : World) (v x : Walk) (back : Bool) {n : ℕ} {s a b r : Set} → ((q : ℕ) → r q ≡ (a q || b q)) → Image (Way w v back) n s a → Image (Way w x back) n s b
+    → Image (Way w (alt v x) back) n s r
+unfolding Leads
+alt-image w v x false j f g = or-image j f g
+alt-image w v x true j f g = or-image j f g
+
+-- `*W`
+pub star-image : (w : World) (x : Walk) (back : Bool) {n : ℕ} {s r : Set} → Image (Many (Way w x back)) n s r → Image (Way w (star x) back) n s r
+unfolding Leads
+star-image w x false i = i
+star-image w x true i = i
+
+-- `?T`: the same both ways
+pub check-image : (w : World) (x : Test) (back : Bool) {n : ℕ} {s r : Set} → Image (Here w (Holds w x)) n s r → Image (Way w (check x) back) n s r
+unfolding Leads
+check-image w x false i = i
+check-image w x true i = i
+
+-- `-W`
+pub conv-image : (w : World) (x : Walk) (back : Bool) {n : ℕ} {s r : Set} → Image (Way w x (not back)) n s r → Image (Way w (conv x) back) n s r
+unfolding Leads
+conv-image w x false i = i
+conv-image w x true i = i
+
+-- `1`, `fNN`, `!T`, `&TU`
+pub always-keeps : (w : World) {n : ℕ} {s : Set} → Sifted (Holds w always) n s s
+unfolding Leads
+always-keeps w = always-sifted
+
+pub fluent-keeps : (w : World) (i : ℕ) {n : ℕ} {s l r : Set} → UpTo n s → ((q : ℕ) → q ≤ n → (l q ≡ true) ↔ (on (stateAt w q) i ≡ true))
+    → ((q : ℕ) → r q ≡ (s q && l q)) → Sifted (Holds w (fluent i)) n s r
+unfolding Leads
+fluent-keeps w i {n} {s} {l} low lit meet = record {
+  each = λ q. (
+    λ h. let u = and-iff (s q) (l q) .0 (sym (meet q) ∙ h) in (u .0, lit q (low q (u .0)) .0 (u .1)),
+    λ h. meet q ∙ and-iff (s q) (l q) .1 (h .0, lit q (low q (h .0)) .1 (h .1)),
+  );
+}
+
+pub neg-keeps : (w : World) (x : Test) {n : ℕ} {s t r : Set} → ((q : ℕ) → r q ≡ (s q && not (t q))) → Sifted (Holds w x) n s t → Sifted (Holds w (neg x)) n s r
+unfolding Leads
+neg-keeps w x rest i = not-sifted rest i
+
+pub both-keeps : (w : World) (x y : Test) {n : ℕ} {s t r : Set} → Sifted (Holds w x) n s t → Sifted (Holds w y) n t r → Sifted (Holds w (both x y)) n s r
+unfolding Leads
+both-keeps w x y f g = both-sifted f g
+
+-- `<WT`: by the converse theorem
+pub diamond-keeps : (w : World) (v : Walk) (x : Test) {n : ℕ} {s all t m r : Set} → ((q : ℕ) → q ≤ n → all q ≡ true) → Sifted (Holds w x) n all t
+    → Image (Way w v true) n t m → ((q : ℕ) → r q ≡ (s q && m q)) → Sifted (Holds w (diamond v x)) n s r
+unfolding Leads
+diamond-keeps w v x {n} all f i meet = some-sifted (leads-within w v) (λ p q. back-exchanged w v p q n) all f i meet
+
+-- `**W` is `*W`
+pub star-star : (w : World) (x : Walk) (back : Bool) {n : ℕ} {s r : Set} → Image (Many (Way w x back)) n s r → Image (Many (Way w (star x) back)) n s r
+unfolding Leads
+star-star w x false i = many-many (leads-within w x) i
+star-star w x true i = many-many (back-within w x) i

@@ -1,0 +1,10 @@
+pub mod Image
+pub mod Arms
+pub mod Crossing
+pub mod Calls
+pub mod Leaf
+pub mod Found
+pub mod Loops
+pub mod Asking
+pub mod Answering
+pub mod Determined

@@ -1,0 +1,66 @@
+-- `ask::step::leaf` meets its contract: each arm by the law of its sign.
+use borrow.Author.Needs.{needs}
+use Rattle.positions.specs.Positions.{holds}
+use Rattle.rule.proofs.Spread.{within}
+use Rattle.ask.proofs.Leaf.{act-number, undo-number, act-found, undo-found, next-found, prev-found}
+use Rattle.ask.proofs.step.leaf.Statement.{statement}
+use Rattle.ask.proofs.step.leaf.Tie as tie
+
+shared-slice-read-sign : tie.Need-shared-slice-read-sign
+shared-slice-read-sign c = within (c .before .before .before .pre .stands)
+
+row-requires : tie.Need-row-requires
+row-requires c κs = act-number (c .before .before .before .before .pre) (c .match .keys1)
+
+cross-requires : tie.Need-cross-requires
+cross-requires c κs = search needs
+
+row-requires-2 : tie.Need-row-requires-2
+row-requires-2 c κs = undo-number (c .before .before .before .before .pre) (c .match .keys2)
+
+cross-requires-2 : tie.Need-cross-requires-2
+cross-requires-2 c κs = search needs
+
+any-step-requires : tie.Need-any-step-requires
+any-step-requires c κs = search needs
+
+cross-requires-3 : tie.Need-cross-requires-3
+cross-requires-3 c κs = search needs
+
+any-step-requires-2 : tie.Need-any-step-requires-2
+any-step-requires-2 c κs = search needs
+
+cross-requires-4 : tie.Need-cross-requires-4
+cross-requires-4 c κs = search needs
+
+returns : tie.Need-returns
+returns c = act-found (holds (c .before .row .result)) (c .before .before .match .keys1) (c .before .row .ensures) (c .cross .ensures)
+
+returns-2 : tie.Need-returns-2
+returns-2 c = undo-found (holds (c .before .row2 .result)) (c .before .before .match .keys2) (c .before .row2 .ensures) (c .cross2 .ensures)
+
+returns-3 : tie.Need-returns-3
+returns-3 c = next-found (holds (c .before .any-step .result)) (c .before .before .match .keys3) (c .before .any-step .ensures) (c .cross3 .ensures)
+
+returns-4 : tie.Need-returns-4
+returns-4 c =
+    let none = c .before .before .match .rest in
+    prev-found (holds (c .before .any-step2 .result)) (none .0 .0 .1) (none .0 .1) (none .1) (c .before .any-step2 .ensures) (c .cross4 .ensures)
+
+pub leaf-spec : {M : Type 1} → statement M
+leaf-spec =
+    tie.close
+    (tie.spec
+    shared-slice-read-sign
+    row-requires
+    cross-requires
+    row-requires-2
+    cross-requires-2
+    any-step-requires
+    cross-requires-3
+    any-step-requires-2
+    cross-requires-4
+    returns
+    returns-2
+    returns-3
+    returns-4)

@@ -1,0 +1,98 @@
+-- `ask::verdict` meets its contract: the refusal stands, or the one position is kept exactly when the test is true there.
+use mathlib.Core.Path.{refl, sym, subst, _∙_}
+use mathlib.Core.Logic.{inl, inr}
+use mathlib.Core.Bool.{true, false}
+use mathlib.Core.List.{List}
+use borrow.Author.Needs.{needs}
+use denote.Ref.{now}
+use Rattle.meaning.specs.Rule.{testKind}
+use Rattle.meaning.specs.Refusal.{Row, Accepted}
+use Rattle.theory.specs.Check.{Settled}
+use Rattle.rule.proofs.Outcomes.{test-no-job}
+use Rattle.ask.specs.Rows.{askRows}
+use Rattle.ask.proofs.Asking.{asked-readable, asked-short}
+use Rattle.ask.proofs.Answering.{test-first, verdict-right}
+use Rattle.ask.proofs.verdict.Statement.{statement}
+use Rattle.ask.proofs.verdict.Tie as tie
+
+-- the call's rows, at the arguments
+abbrev rows : tie.Start → List {1} Row
+rows c =
+    askRows testKind (c .args .fluents) (c .args .actions) (c .args .start) (now (c .args .masks)) (now (c .args .log)) (now (c .args .test)) (c .args .then) (c .args .now)
+
+-- nothing is refused, in that arm
+sound : (c : tie.After-enum-told) → Accepted (rows (c .before .before .before .before .before .before))
+sound c = subst (Settled (rows (c .before .before .before .before .before .before))) (c .enum-told .given .1) (c .before .before .check .ensures)
+
+check-requires : tie.Need-check-requires
+check-requires c κs = test-no-job
+
+enum-known-r : tie.Need-enum-known-r
+enum-known-r c = search needs
+
+enum-told : tie.Need-enum-told
+enum-told c = search needs
+
+mark-requires : tie.Need-mark-requires
+mark-requires c κs = asked-short (sound (c .before))
+
+transpose-requires : tie.Need-transpose-requires
+transpose-requires c κs = asked-readable (sound (c .before .before .before .before))
+
+at-requires : tie.Need-at-requires
+at-requires c κs = search needs
+
+slice-aggregate-test : tie.Need-slice-aggregate-test
+slice-aggregate-test c = sym (c .before .before .before .before .before .mark .ensures .0)
+
+slice-aggregate-test-2 : tie.Need-slice-aggregate-test-2
+slice-aggregate-test-2 c = sym (c .before .before .before .transpose .ensures 0 0 .actionsRoom)
+
+slice-aggregate-test-3 : tie.Need-slice-aggregate-test-3
+slice-aggregate-test-3 c = sym (c .before .before .before .before .transpose .ensures 0 0 .fluentsRoom)
+
+test-requires : tie.Need-test-requires
+test-requires c κs = test-first (sound (c .before .before .before .before .before .before .before .before .before)) (c .before .before .before .before .before .before .before .mark .ensures .1)
+
+has-requires : tie.Need-has-requires
+has-requires c κs = search needs
+
+returns : tie.Need-returns
+returns c =
+    let start = c .before .before .before .before .before .before .before .before .before .before .before .before .before .before .before .before .before .before in
+    let told = c .before .before .before .before .before .before .before .transpose .ensures (start .args .fluents) (start .args .actions) in
+    let one = c .before .before .before .before .before .before .at in
+    let kept = c .before .before .test in
+    inr (verdict-right (sound (c .before .before .before .before .before .before .before .before .before .before .before .before)) told (one .result) (kept .result) (one .ensures) (kept .ensures) true (sym (c .if1 .taken) ∙ c .before .has .ensures))
+
+returns-2 : tie.Need-returns-2
+returns-2 c =
+    let start = c .before .before .before .before .before .before .before in
+    inl (record { refused = subst (Settled (rows start)) (c .before .r .given .1) (c .before .before .before .check .ensures); untold = refl })
+
+returns-3 : tie.Need-returns-3
+returns-3 c =
+    let start = c .before .before .before .before .before .before .before .before .before .before .before .before .before .before .before .before .before .before in
+    let told = c .before .before .before .before .before .before .before .transpose .ensures (start .args .fluents) (start .args .actions) in
+    let one = c .before .before .before .before .before .before .at in
+    let kept = c .before .before .test in
+    inr (verdict-right (sound (c .before .before .before .before .before .before .before .before .before .before .before .before)) told (one .result) (kept .result) (one .ensures) (kept .ensures) false (sym (c .if1 .left) ∙ c .before .has .ensures))
+
+pub verdict-spec : {M : Type 1} → statement M
+verdict-spec =
+    tie.close
+    (tie.spec
+    check-requires
+    enum-known-r
+    enum-told
+    mark-requires
+    transpose-requires
+    at-requires
+    slice-aggregate-test
+    slice-aggregate-test-2
+    slice-aggregate-test-3
+    test-requires
+    has-requires
+    returns
+    returns-2
+    returns-3)

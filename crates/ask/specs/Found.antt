@@ -1,0 +1,65 @@
+-- What the evaluator's functions ask of a place of the text, and what they answer. An answer is right for every world that the tables describe and every
+-- rule that stands at the place.
+use mathlib.Core.Bool.{Bool}
+use mathlib.Core.List.{List}
+use Prim.Native.Nat.{ℕ, _≤_}
+use lib.ListN.{length}
+use Rattle.meaning.specs.Limits.{logLimit}
+use Rattle.meaning.specs.Theory.{World}
+use Rattle.meaning.specs.Rule.{Walk, Test, ofWalk, ofTest}
+use Rattle.meaning.specs.Leads.{Holds, Here, Many}
+use Rattle.theory.specs.Tables.{Describes}
+use Rattle.ask.specs.Image.{Set, UpTo, Image, Sifted, Way}
+use Rattle.rule.specs.Standing.{Stands, Ends, Leaf}
+
+-- a walk, a test, a walk with no part stands at the place; the table of ends is the text's
+pub record WalkHere (bytes ends : List ℕ) (at : ℕ) : Type 0 where
+  pub walk : Walk
+  pub stands : Stands bytes at (ofWalk walk)
+  pub marked : Ends bytes ends
+
+pub record TestHere (bytes ends : List ℕ) (at : ℕ) : Type 0 where
+  pub test : Test
+  pub stands : Stands bytes at (ofTest test)
+  pub marked : Ends bytes ends
+
+pub record LeafHere (bytes : List ℕ) (at : ℕ) : Type 0 where
+  pub walk : Walk
+  pub stands : Stands bytes at (ofWalk walk)
+  pub leaf : Leaf walk
+
+-- the tables are this world's, its log is no longer than a log may be, and now is not past it
+pub record Told (w : World) (done lit : List ℕ) (now : ℕ) : Type 0 where
+  pub described : Describes w done lit
+  pub logged : now ≤ length (w .log)
+  pub room : length (w .log) ≤ logLimit
+
+-- the positions that the walk there, or its converse, leads to from some position of the set; the same of a walk with no part
+pub record WalkFound (bytes : List ℕ) (at : ℕ) (back : Bool) (done lit : List ℕ) (now : ℕ) (from answer : Set) : Type 0 where
+  pub found :
+      (w : World) → Told w done lit now → UpTo now from → (x : Walk) → Stands bytes at (ofWalk x) → Image (Way w x back) now from answer
+
+pub record LeafFound (bytes : List ℕ) (at : ℕ) (back : Bool) (done : List ℕ) (now : ℕ) (from answer : Set) : Type 0 where
+  pub found :
+      (w : World) (lit : List ℕ)
+      → Told w done lit now
+      → UpTo now from
+      → (x : Walk)
+      → Leaf x
+      → Stands bytes at (ofWalk x)
+      → Image (Way w x back) now from answer
+
+-- the same by chains of that walk
+pub record ChainFound (bytes : List ℕ) (at : ℕ) (back : Bool) (done lit : List ℕ) (now : ℕ) (from answer : Set) : Type 0 where
+  pub found :
+      (w : World) → Told w done lit now → UpTo now from → (x : Walk) → Stands bytes at (ofWalk x) → Image (Many (Way w x back)) now from answer
+
+-- the positions of the set where the test there is true
+pub record TestFound (bytes : List ℕ) (at : ℕ) (done lit : List ℕ) (now : ℕ) (among answer : Set) : Type 0 where
+  pub found :
+      (w : World) → Told w done lit now → UpTo now among → (x : Test) → Stands bytes at (ofTest x) → Sifted (Holds w x) now among answer
+
+-- the same of a test inside a walk
+pub record HereFound (bytes : List ℕ) (at : ℕ) (done lit : List ℕ) (now : ℕ) (among answer : Set) : Type 0 where
+  pub found :
+      (w : World) → Told w done lit now → UpTo now among → (x : Test) → Stands bytes at (ofTest x) → Image (Here w (Holds w x)) now among answer

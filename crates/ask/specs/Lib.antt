@@ -1,0 +1,4 @@
+pub mod Image
+pub mod Found
+pub mod Rows
+pub mod Answer

@@ -1,0 +1,17 @@
+-- `finish::asks::waits` meets its contract: the test is whether the set holds the end.
+use mathlib.Core.Path.{sym, _∙_}
+use borrow.Author.Needs.{needs}
+use Rattle.finish.proofs.asks.waits.Statement.{statement}
+use Rattle.finish.proofs.asks.waits.Tie as tie
+
+has-requires : tie.Need-has-requires
+has-requires c κs = search needs
+
+returns : tie.Need-returns
+returns c = rw (sym (c .before .has .ensures) ∙ c .if1 .taken)
+
+returns-2 : tie.Need-returns-2
+returns-2 c = rw (sym (c .before .has .ensures) ∙ c .if1 .left)
+
+pub waits-spec : {M : Type 1} → statement M
+waits-spec = tie.close (tie.spec has-requires returns returns-2)

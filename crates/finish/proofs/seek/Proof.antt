@@ -1,0 +1,116 @@
+-- `finish::seek` meets its contract: the log goes to the trail, and what is found behind it to the output.
+use mathlib.Core.Path.{_≡_, sym, subst, _∙_}
+use Prim.Native.Nat.{_+_, _-_}
+use native.Mathlib.Omega.{arith}
+use denote.Ref.{now}
+use lib.ListN.{length, take, drop, length-take, length-drop}
+use Rattle.finish.specs.declared.search.Found.the-variants.{At}
+use Rattle.finish.specs.Found.{FinishTold}
+use Rattle.finish.proofs.Seeking.{copied, ready-first, nothing-sought, written-sought}
+use borrow.Author.Needs.{needs}
+use Rattle.finish.proofs.seek.Statement.{statement}
+use Rattle.finish.proofs.seek.Tie as tie
+
+mark-requires : tie.Need-mark-requires
+mark-requires c κs = search needs
+
+slice-aggregate-copy : tie.Need-slice-aggregate-copy
+slice-aggregate-copy c = search needs
+
+copy-requires : tie.Need-copy-requires
+copy-requires c κs = search needs
+
+slice-aggregate-first : tie.Need-slice-aggregate-first
+slice-aggregate-first c = sym (c .before .before .before .before .mark .ensures .0)
+
+slice-aggregate-first-2 : tie.Need-slice-aggregate-first-2
+slice-aggregate-first-2 c = search needs
+
+-- the trail's first places hold the log
+front : (c : tie.After-copy) → take (c .copy .result) (c .copy .last .1 .0) ≡ now (c .before .before .before .before .before .before .before .before .args .log)
+front c = copied (now (c .before .before .before .before .before .before .before .before .args .log)) _ (c .copy .last .1 .0) (c .copy .result) (c .copy .ensures .0) (c .copy .ensures .1)
+
+first-requires : tie.Need-first-requires
+first-requires c κs =
+    let s = c .before .before .before .before .before .before .before .before .before .before .before in
+    let a = s .args in
+    let copy = c .before .before .before .copy in
+    ready-first (a .actions) (now (a .masks)) (now (a .log)) (now (a .job)) (c .before .before .before .before .before .mark .last .1 .0) (copy .last .1 .0) (a .more) (length (now (a .out)))
+    (copy .result) (s .pre) (c .before .before .before .before .before .mark .ensures .1) (copy .kept .1 .0) (copy .ensures .0) (front (c .before .before .before))
+
+enum-told : tie.Need-enum-told
+enum-told c = search needs
+
+enum-known-k : tie.Need-enum-known-k
+enum-known-k c = search needs
+
+-- the search found a sequence of k actions
+found : (c : tie.After-known-told)
+    → let a = c .before .before .before .before .before .before .before .before .before .before .before .before .before .before .before .before .args in
+    FinishTold (a .actions) (a .start) (now (a .masks)) (now (a .job)) (c .before .before .before .before .before .before .before .before .copy .last .1 .0) (c .before .before .before .before .before .before .before .before .copy .result) (a .more) (c .before .before .before .before .first .last .1 .1 .1 .1 .1 .0)
+    (At (c .before .k .given .0 .0))
+found c =
+    let a = c .before .before .before .before .before .before .before .before .before .before .before .before .before .before .before .before .args in
+    subst
+    (FinishTold (a .actions) (a .start) (now (a .masks)) (now (a .job)) (c .before .before .before .before .before .before .before .before .copy .last .1 .0) (c .before .before .before .before .before .before .before .before .copy .result) (a .more) (c .before .before .before .before .first .last .1 .1 .1 .1 .1 .0))
+    (c .before .k .given .1) (c .before .before .before .before .first .ensures)
+
+add-end : tie.Need-add-end
+add-end c = omega (arith, found c .fits .1)
+
+sub-copy : tie.Need-sub-copy
+sub-copy c = search needs
+
+part-copy-start : tie.Need-part-copy-start
+part-copy-start c = search needs
+
+part-copy-end : tie.Need-part-copy-end
+part-copy-end c = omega (arith, found (c .before) .fits .1, c .before .before .before .before .before .first .kept .1 .1 .1 .1 .1 .0, c .before .before .before .before .before .before .before .before .before .copy .kept .1 .0)
+
+copy-requires-2 : tie.Need-copy-requires-2
+copy-requires-2 c κs = simp (length-take, length-drop) (omega (arith, found (c .before .before .before) .fits .0, c .before .before .before .before .before .before .before .before .before .before .before .before .before .before .before .before .before .before .before .pre .enough))
+
+returns : tie.Need-returns
+returns c =
+    let s = c .before .before .before .before .before .before .before .before .before .before .before .before .before .before .before in
+    let a = s .args in
+    let trail = c .before .before .before .before .before .before .before .copy .last .1 .0 in
+    let last = c .before .before .before .first .last .1 .1 .1 .1 .1 .0 in
+    nothing-sought (a .actions) (a .start) (now (a .masks)) (now (a .log)) (now (a .job)) trail last (c .before .before .before .before .before .before .before .copy .result) (a .more) (front (c .before .before .before .before .before .before .before)) (now (a .out))
+    (subst (FinishTold (a .actions) (a .start) (now (a .masks)) (now (a .job)) trail (c .before .before .before .before .before .before .before .copy .result) (a .more) last) (c .enum-told .given .1) (c .before .before .before .first .ensures))
+
+same-length : tie.Need-same-length
+same-length c = search needs
+
+returns-2 : tie.Need-returns-2
+returns-2 c =
+    let s = c .before .before .before .before .before .before .before .before .before .before .before .before .before .before .before .before .before .before .before .before .before .before in
+    let a = s .args in
+    let n = c .before .before .before .before .before .before .before .before .before .before .before .before .before .before .copy .result in
+    let k = c .before .before .before .before .before .before .before .k .given .0 .0 in
+    let last = c .before .before .before .before .before .before .before .before .before .before .first .last .1 .1 .1 .1 .1 .0 in
+    let back : n + k - n ≡ k = omega arith in
+    written-sought (a .actions) (a .start) (now (a .masks)) (now (a .log)) (now (a .job)) (c .before .before .before .before .before .before .before .before .before .before .before .before .before .before .copy .last .1 .0) last n (a .more) (front (c .before .before .before .before .before .before .before .before .before .before .before .before .before .before)) (now (a .out))
+    k (take (n + k - n) (drop n last)) (c .before .before .copy2 .last .1 .0) (c .before .before .before .before .before .before .before .before .before .before .first .kept .1 .1 .1 .1 .1 .0 ∙ c .before .before .before .before .before .before .before .before .before .before .before .before .before .before .copy .kept .1 .0) (rw back)
+    (c .before .before .copy2 .ensures .1) (found (c .before .before .before .before .before .before))
+
+pub seek-spec : {M : Type 1} → statement M
+seek-spec =
+    tie.close
+    (tie.spec
+    mark-requires
+    slice-aggregate-copy
+    copy-requires
+    slice-aggregate-first
+    slice-aggregate-first-2
+    first-requires
+    enum-told
+    enum-known-k
+    add-end
+    sub-copy
+    part-copy-start
+    part-copy-end
+    copy-requires-2
+    returns
+    same-length
+    returns-2)

@@ -1,0 +1,71 @@
+// The actions that a job asks for next: what each sign waits for at the log's end, by the evaluator's own way over the text.
+ghost use mathlib.Core.Path.{_≡_};
+ghost use mathlib.Core.Bool.{cond};
+ghost use Prim.Native.Nat.{ℕ, _<_};
+ghost use lib.Dec.{eqb};
+ghost use Rattle.laws.specs.Bit.{on};
+ghost use Rattle.meaning.specs.Limits.{actionLimit};
+ghost use Rattle.positions.specs.Positions.{holds};
+ghost use Rattle.ask.specs.Found.{WalkHere};
+ghost use Rattle.finish.specs.Found.{AskFound};
+use ask::evaluator;
+use ask::step;
+use positions::PositionSet;
+use theory::ACTION_LIMIT;
+
+// Action a alone; none, where it is past the last.
+fn one(a: usize) -> u64
+    ensures { λ r. ⌜ ((i : ℕ) → i < actionLimit → on r i ≡ eqb i a) ⌝ }
+{
+    if a < ACTION_LIMIT { 1 << a } else { 0 }
+}
+
+// A step that waits for some of these actions does so if the set holds the end.
+fn waits(from: PositionSet, end: usize, these: u64) -> u64
+    ensures { λ r. ⌜ r ≡ cond (holds from end) these 0 ⌝ }
+{
+    if from.has(end) { these } else { 0 }
+}
+
+// The actions that the walk at a place asks for at the end, from some position of a set.
+pub fn asks(
+    text: &[u8],
+    ends: &[u8],
+    at: usize,
+    from: PositionSet,
+    end: usize,
+    done: &[u64],
+    lit: &[u64],
+) -> u64
+    requires { ⌜ WalkHere (now text) (now ends) at ⌝ }
+    ensures { λ r. ⌜ AskFound (now (text .entry)) at (now (done .entry)) (now (lit .entry)) end (holds from) r ⌝ }
+{
+    let sign = text[at];
+    let part = at + 1;
+    match sign {
+        b'a' => {
+            let a = step::named(text, at);
+            let these = one(a);
+            waits(from, end, these)
+        }
+        b'n' => waits(from, end, !0),
+        b';' => {
+            let other = evaluator::second(ends, at);
+            let middle = evaluator::walk(text, ends, part, from, end, false, done, lit);
+            let first = asks(text, ends, part, from, end, done, lit);
+            let then = asks(text, ends, other, middle, end, done, lit);
+            first | then
+        }
+        b'|' => {
+            let other = evaluator::second(ends, at);
+            let first = asks(text, ends, part, from, end, done, lit);
+            let or = asks(text, ends, other, from, end, done, lit);
+            first | or
+        }
+        b'*' => {
+            let held = evaluator::walk(text, ends, at, from, end, false, done, lit);
+            asks(text, ends, part, held, end, done, lit)
+        }
+        _ => 0,
+    }
+}

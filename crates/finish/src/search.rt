@@ -1,0 +1,101 @@
+// The search: lengths from 0 up, in each depth first in action order, over one trail that grows and shrinks in place.
+ghost use mathlib.Core.Path.{_≡_};
+ghost use Prim.Native.Nat.{_-_, _≤_, min};
+ghost use Rattle.meaning.specs.Limits.{logLimit};
+ghost use Rattle.finish.specs.Sound.{Node, Ready};
+ghost use Rattle.finish.specs.Found.{EndTold, LengthTold, FinishTold};
+use crate::tries::tries;
+use ask::evaluator;
+use positions::PositionSet;
+use theory::ACTION_LIMIT;
+use theory::FLUENT_LIMIT;
+use theory::LOG_LIMIT;
+use theory::tables;
+
+// How many actions the first finishing sequence has.
+pub enum Found {
+    At(usize),
+    Nothing,
+}
+
+// The job is finished as the log stands.
+fn finished(actions: usize, start: u32, masks: &[u32], job: &[u8], ends: &[u8], log: &[u8]) -> bool
+    requires { ⌜ Node actions (now masks) (now job) (now ends) (now log) ⌝ }
+    ensures { λ r. ⌜ EndTold start (now (masks .entry)) (now (job .entry)) (now (log .entry)) r ⌝ }
+{
+    let mut done = [0u64; ACTION_LIMIT];
+    let mut lit = [0u64; FLUENT_LIMIT];
+    tables::transpose(masks, start, log, &mut done, &mut lit);
+    let end = log.len();
+    let front = PositionSet::at(0);
+    let reached = evaluator::walk(job, ends, 0, front, end, false, &done, &lit);
+    reached.has(end)
+}
+
+// The first sequence of exactly `left` actions behind the first n of the trail: whether there is one; it then stands there.
+fn complete(
+    actions: usize,
+    start: u32,
+    masks: &[u32],
+    job: &[u8],
+    ends: &[u8],
+    trail: &mut [u8],
+    n: usize,
+    left: usize,
+) -> bool
+    requires { ⌜ Ready actions (now masks) (now job) (now ends) (now trail) n left ⌝ }
+    ensures { λ r. ⌜ LengthTold actions start (now (masks .entry)) (now (job .entry)) (now (trail .entry)) n left (now (trail .exit)) r ⌝ }
+{
+    if left == 0 {
+        return finished(actions, start, masks, job, ends, &trail[..n]);
+    }
+    let rest = left - 1;
+    let next = n + 1;
+    let asked = tries(actions, start, masks, job, ends, &trail[..n]);
+    let mut a = 0;
+    while a < actions {
+        let from_a = asked >> a;
+        if from_a % 2 == 1 {
+            trail[n] = a as u8;
+            if complete(actions, start, masks, job, ends, trail, next, rest) {
+                return true;
+            }
+        }
+        a += 1;
+    }
+    false
+}
+
+// The longest sequence that may be tried: at most `more` actions, and log and sequence together at most a log.
+fn longest(n: usize, more: usize) -> usize
+    requires { ⌜ n ≤ logLimit ⌝ }
+    ensures { λ r. ⌜ r ≡ min more (logLimit - n) ⌝ }
+{
+    let room = LOG_LIMIT - n;
+    if more < room { more } else { room }
+}
+
+// The first sequence of all that finish the job: how many actions it has; they then stand behind the first n of the trail, which hold the log.
+pub fn first(
+    actions: usize,
+    start: u32,
+    masks: &[u32],
+    job: &[u8],
+    ends: &[u8],
+    trail: &mut [u8],
+    n: usize,
+    more: usize,
+) -> Found
+    requires { ⌜ Ready actions (now masks) (now job) (now ends) (now trail) n 0 ⌝ }
+    ensures { λ r. ⌜ FinishTold actions start (now (masks .entry)) (now (job .entry)) (now (trail .entry)) n more (now (trail .exit)) r ⌝ }
+{
+    let most = longest(n, more);
+    let mut k = 0;
+    while k <= most {
+        if complete(actions, start, masks, job, ends, trail, n, k) {
+            return Found::At(k);
+        }
+        k += 1;
+    }
+    Found::Nothing
+}

@@ -1,0 +1,43 @@
+// Which actions may come next: one answer, a word with bit a for action a.
+ghost use Rattle.finish.specs.Sound.{Table, Node};
+ghost use Rattle.finish.specs.Found.{Doable, NextTold};
+use crate::asks::asks;
+use positions::PositionSet;
+use theory::ACTION_LIMIT;
+use theory::FLUENT_LIMIT;
+use theory::log;
+use theory::step;
+use theory::tables;
+
+// The actions that are possible in this state.
+fn doable(actions: usize, masks: &[u32], state: u32) -> u64
+    requires { ⌜ Table actions (now masks) ⌝ }
+    ensures { λ r. ⌜ Doable actions (now (masks .entry)) state r ⌝ }
+{
+    let mut asked: u64 = 0;
+    let mut a = 0;
+    while a < actions {
+        if step::able(masks, a, state) {
+            let bit: u64 = 1 << a;
+            asked = asked | bit;
+        }
+        a += 1;
+    }
+    asked
+}
+
+// The actions to try next: those that are possible and that the job asks for. No other could begin a rest that finishes the job.
+pub fn tries(actions: usize, start: u32, masks: &[u32], job: &[u8], ends: &[u8], log: &[u8]) -> u64
+    requires { ⌜ Node actions (now masks) (now job) (now ends) (now log) ⌝ }
+    ensures { λ r. ⌜ NextTold actions start (now (masks .entry)) (now (job .entry)) (now (log .entry)) r ⌝ }
+{
+    let mut done = [0u64; ACTION_LIMIT];
+    let mut lit = [0u64; FLUENT_LIMIT];
+    tables::transpose(masks, start, log, &mut done, &mut lit);
+    let end = log.len();
+    let front = PositionSet::at(0);
+    let asked = asks(job, ends, 0, front, end, &done, &lit);
+    let state = log::state_at(masks, start, log, end);
+    let able = doable(actions, masks, state);
+    able & asked
+}

@@ -1,0 +1,9 @@
+pub mod Signs
+pub mod Skipping
+pub mod Writing
+pub mod Arms
+pub mod TestArms
+pub mod Asked
+pub mod Whole
+pub mod Outcomes
+pub mod Consequences

@@ -1,0 +1,72 @@
+-- The signs: a byte that is none of a list's, and what each sign of a walk is rewritten to. Opens the normal form; knows no code.
+use mathlib.Core.Path.{_≡_, refl, sym}
+use mathlib.Core.Logic.{inl, inr}
+use mathlib.Core.Bool.{Bool, true, false, not, false≢true}
+use mathlib.Core.List.{List, [], _∷_, _++_}
+use Prim.Native.Nat.{ℕ}
+use types.Run.{OneOf}
+use borrow.Author.Tests.{ne-eqb}
+use Rattle.meaning.specs.Rule.{Walk, Test, act, undo, next, prev, seq, alt, star, check, conv, walkText, testText, digits}
+use Rattle.meaning.specs.Normal.{normal, normalTest}
+use Rattle.normal.specs.Place.{facing}
+use Rattle.normal.specs.Sign.{oneOf, turnedSign, facingSign}
+
+pub none-of : (cs : List ℕ) (b : ℕ) → (OneOf cs b → ⊥) → oneOf cs b ≡ false
+none-of [] b n = refl
+none-of (c ∷ []) b n = simp (ne-eqb b c n)
+none-of (c ∷ (d ∷ cs)) b n = simp (ne-eqb b c (λ e. n (inl e)), none-of (d ∷ cs) b (λ e. n (inr e)))
+
+pub turned-other : (b : ℕ) → (b ≡ 97 → ⊥) → (b ≡ 114 → ⊥) → (b ≡ 110 → ⊥) → (b ≡ 117 → ⊥) → turnedSign b ≡ b
+turned-other b a r n u = simp (ne-eqb b 97 a, ne-eqb b 114 r, ne-eqb b 110 n, ne-eqb b 117 u)
+
+-- What each sign of a walk is rewritten to, forwards and under a converse.
+
+pub act-facing : (back : Bool) (a : ℕ) → walkText (facing back (act a)) ≡ facingSign back 97 ∷ digits a
+unfolding normal walkText
+act-facing false a = refl
+act-facing true a = refl
+
+pub undo-facing : (back : Bool) (a : ℕ) → walkText (facing back (undo a)) ≡ facingSign back 114 ∷ digits a
+unfolding normal walkText
+undo-facing false a = refl
+undo-facing true a = refl
+
+pub next-facing : (back : Bool) → walkText (facing back next) ≡ facingSign back 110 ∷ []
+unfolding normal walkText
+next-facing false = refl
+next-facing true = refl
+
+pub prev-facing : (back : Bool) → walkText (facing back prev) ≡ facingSign back 117 ∷ []
+unfolding normal walkText
+prev-facing false = refl
+prev-facing true = refl
+
+pub seq-ordered : (back : Bool) → back ≡ false → (v w : Walk) → walkText (facing back (seq v w)) ≡ facingSign back 59 ∷ (walkText (facing back v) ++ walkText (facing back w))
+unfolding normal walkText
+seq-ordered false f v w = refl
+seq-ordered true f v w = absurd (false≢true (sym f))
+
+pub seq-exchanged : (back : Bool) → back ≡ true → (v w : Walk) → walkText (facing back (seq v w)) ≡ facingSign back 59 ∷ (walkText (facing back w) ++ walkText (facing back v))
+unfolding normal walkText
+seq-exchanged false f v w = absurd (false≢true f)
+seq-exchanged true f v w = refl
+
+pub alt-facing : (back : Bool) (v w : Walk) → walkText (facing back (alt v w)) ≡ facingSign back 124 ∷ (walkText (facing back v) ++ walkText (facing back w))
+unfolding normal walkText
+alt-facing false v w = refl
+alt-facing true v w = refl
+
+pub star-facing : (back : Bool) (w : Walk) → walkText (facing back (star w)) ≡ facingSign back 42 ∷ walkText (facing back w)
+unfolding normal walkText
+star-facing false w = refl
+star-facing true w = refl
+
+pub check-facing : (back : Bool) (t : Test) → walkText (facing back (check t)) ≡ facingSign back 63 ∷ testText (normalTest t)
+unfolding normal walkText
+check-facing false t = refl
+check-facing true t = refl
+
+pub conv-facing : (back : Bool) (w : Walk) → walkText (facing back (conv w)) ≡ walkText (facing (not back) w)
+unfolding normal walkText
+conv-facing false w = refl
+conv-facing true w = refl

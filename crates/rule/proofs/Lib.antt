@@ -1,0 +1,6 @@
+pub mod Numbers
+pub mod Answers
+pub mod Refusals
+pub mod Outcomes
+pub mod Widths
+pub mod Spread

@@ -1,0 +1,260 @@
+-- Laws of the table of ends: what it holds at a place follows from what it holds after it, and where a rule is spelled it is where that rule ends. No code.
+use mathlib.Core.Path.{_≡_, refl, sym, ap, subst⁻¹, _∙_}
+use mathlib.Core.Logic.{_⊎_, inl, inr, ⊎-elim}
+use mathlib.Core.List.{List, [], _∷_, _++_, append-assoc}
+use Prim.Native.Nat.{ℕ, zero, suc, _+_, _-_, _≤_, _<_}
+use native.Mathlib.Omega.{arith}
+use native.Mathlib.Decide.{decLe, decLt, ℕ-discrete}
+use lib.ListN.{length, drop, getD, set, length-drop, length-append, length-set}
+use lib.Seq.{drop-drop, drop-length, drop-append-seam, getD-set-same, getD-set-other, ext-getD}
+use borrow.Author.Tests.{ne-eqb}
+use Rattle.meaning.specs.Limits.{textLimit}
+use Rattle.meaning.specs.Rule.{Walk, Test, act, undo, next, prev, seq, alt, star, check, conv, always, fluent, neg, both, diamond, walkText, testText, ofTest, ofWalk, text}
+use Rattle.meaning.specs.Rule as meaning
+use Rattle.rule.specs.declared.ends.Follow.{Follow}
+use Rattle.rule.specs.declared.ends.Follow.the-variants.{Nothing, Digits, Rule, Rules}
+use Rattle.rule.specs.Ends.{followOf, widthBy, widths, endAt, TableFrom, Filled, FillOutcome}
+use Rattle.rule.proofs.Numbers.{here}
+use Rattle.rule.proofs.Answers.{text-some}
+
+-- What follows a sign, as the code finds it out.
+pub digits-follow : (b : ℕ) → (b ≡ 97) ⊎ ((b ≡ 102) ⊎ (b ≡ 114)) → Digits ≡ followOf b
+unfolding followOf
+digits-follow b = ⊎-elim (λ e. ap followOf (sym e)) (⊎-elim (λ e. ap followOf (sym e)) (λ e. ap followOf (sym e)))
+
+pub rule-follows : (b : ℕ) → (b ≡ 33) ⊎ ((b ≡ 42) ⊎ ((b ≡ 45) ⊎ (b ≡ 63))) → Rule ≡ followOf b
+unfolding followOf
+rule-follows b = ⊎-elim (λ e. ap followOf (sym e)) (⊎-elim (λ e. ap followOf (sym e)) (⊎-elim (λ e. ap followOf (sym e)) (λ e. ap followOf (sym e))))
+
+pub walks-follow : (b : ℕ) → (b ≡ 59) ⊎ (b ≡ 124) → Rules ≡ followOf b
+unfolding followOf
+walks-follow b = ⊎-elim (λ e. ap followOf (sym e)) (λ e. ap followOf (sym e))
+
+pub tests-follow : (b : ℕ) → (b ≡ 38) ⊎ (b ≡ 60) → Rules ≡ followOf b
+unfolding followOf
+tests-follow b = ⊎-elim (λ e. ap followOf (sym e)) (λ e. ap followOf (sym e))
+
+pub nothing-follows : (b : ℕ) → ((b ≡ 97) ⊎ ((b ≡ 102) ⊎ (b ≡ 114)) → ⊥) → ((b ≡ 33) ⊎ ((b ≡ 42) ⊎ ((b ≡ 45) ⊎ (b ≡ 63))) → ⊥)
+    → ((b ≡ 59) ⊎ (b ≡ 124) → ⊥) → ((b ≡ 38) ⊎ (b ≡ 60) → ⊥) → Nothing ≡ followOf b
+unfolding followOf
+nothing-follows b d r w t =
+    simp (
+      ne-eqb b 97 (λ e. d (inl e)),
+      ne-eqb b 102 (λ e. d (inr (inl e))),
+      ne-eqb b 114 (λ e. d (inr (inr e))),
+      ne-eqb b 33 (λ e. r (inl e)),
+      ne-eqb b 42 (λ e. r (inr (inl e))),
+      ne-eqb b 45 (λ e. r (inr (inr (inl e)))),
+      ne-eqb b 63 (λ e. r (inr (inr (inr e)))),
+      ne-eqb b 59 (λ e. w (inl e)),
+      ne-eqb b 124 (λ e. w (inr e)),
+      ne-eqb b 38 (λ e. t (inl e)),
+      ne-eqb b 60 (λ e. t (inr e)),
+    )
+
+-- Widths.
+abbrev width : List ℕ → ℕ
+width l = getD (widths l) 0 0
+
+width-drop : (l : List ℕ) (n : ℕ) → n ≤ length l → getD (widths l) n 0 ≡ width (drop n l)
+unfolding widths
+width-drop [] zero h = refl
+width-drop [] (suc n) h = absurd (omega arith)
+width-drop (b ∷ l) zero h = refl
+width-drop (b ∷ l) (suc n) h = width-drop l n (omega arith)
+
+-- no width passes the end
+widths-inside : (l : List ℕ) (n : ℕ) → n ≤ length l → n + getD (widths l) n 0 ≤ length l
+unfolding widths
+widths-inside [] zero h = omega arith
+widths-inside [] (suc n) h = absurd (omega arith)
+widths-inside (b ∷ l) zero h = go (followOf b) (widths-inside l 0 (omega arith)) (widths-inside l (width l))
+  where
+    go : (f : Follow) → 0 + width l ≤ length l → (width l ≤ length l → width l + getD (widths l) (width l) 0 ≤ length l) → 0 + widthBy f (suc (length l)) (widths l) ≤ suc (length l)
+    go Nothing one two = omega arith
+    go Digits one two = omega arith
+    go Rule one two = omega arith
+    go Rules one two = omega (arith, two (omega arith))
+widths-inside (b ∷ l) (suc n) h = omega (arith, widths-inside l n (omega arith))
+
+-- The end at a place, by what follows its sign and by the ends after it.
+module _ (bytes : List ℕ) (at : ℕ) where
+  pub end-inside : at ≤ length bytes → endAt bytes at ≤ length bytes
+  end-inside h = omega (arith, widths-inside (drop at bytes) 0 (omega arith), length-drop at bytes)
+
+  module _ (h : at < length bytes) where
+    end-by : (f : Follow) → f ≡ followOf (getD bytes at 0) → endAt bytes at ≡ at + widthBy f (suc (length (drop (at + 1) bytes))) (widths (drop (at + 1) bytes))
+    unfolding widths
+    end-by f e =
+        ap (λ (l : List ℕ). at + width l) (here bytes at h) ∙ ap (λ (x : Follow). at + widthBy x (suc (length (drop (at + 1) bytes))) (widths (drop (at + 1) bytes))) (sym e)
+
+    pub end-leaf : Nothing ≡ followOf (getD bytes at 0) → at + 1 ≡ endAt bytes at
+    end-leaf e = sym (end-by Nothing e)
+
+    pub end-digits : Digits ≡ followOf (getD bytes at 0) → at + 3 ≤ length bytes → at + 3 ≡ endAt bytes at
+    end-digits e l = omega (arith, end-by Digits e, length-drop (at + 1) bytes)
+
+    pub end-cut : Digits ≡ followOf (getD bytes at 0) → length bytes < at + 3 → length bytes ≡ endAt bytes at
+    end-cut e l = omega (arith, end-by Digits e, length-drop (at + 1) bytes)
+
+    pub end-rule : Rule ≡ followOf (getD bytes at 0) → endAt bytes (at + 1) ≡ endAt bytes at
+    end-rule e = omega (arith, end-by Rule e)
+
+    pub end-rules : Rules ≡ followOf (getD bytes at 0) → endAt bytes (endAt bytes (at + 1)) ≡ endAt bytes at
+    end-rules e =
+        let l = drop (at + 1) bytes in
+        let inside = widths-inside l 0 (omega arith) in
+        let there : drop (endAt bytes (at + 1)) bytes ≡ drop (width l) l = sym (drop-drop (width l) (at + 1) bytes) in
+        let second : width (drop (endAt bytes (at + 1)) bytes) ≡ getD (widths l) (width l) 0 = ap width there ∙ sym (width-drop l (width l) (omega arith)) in
+        omega (arith, second, end-by Rules e)
+
+-- and by a table of the ends after it
+module _ (bytes ends : List ℕ) (at : ℕ) (t : TableFrom bytes ends at) where
+  pub table-rule : Rule ≡ followOf (getD bytes at 0) → getD ends (at + 1) 0 ≡ endAt bytes at
+  table-rule e = t .told (at + 1) (omega arith) (omega (arith, t .inside)) ∙ end-rule bytes at (t .inside) e
+
+  pub middle-inside : getD ends (at + 1) 0 ≤ length bytes
+  middle-inside = omega (arith, t .told (at + 1) (omega arith) (omega (arith, t .inside)), end-inside bytes (at + 1) (omega (arith, t .inside)))
+
+  pub table-rules : Rules ≡ followOf (getD bytes at 0) → getD ends (getD ends (at + 1) 0) 0 ≡ endAt bytes at
+  table-rules e =
+      let middle = t .told (at + 1) (omega arith) (omega (arith, t .inside)) in
+      t .told (getD ends (at + 1) 0) (omega arith) middle-inside ∙ ap (endAt bytes) middle ∙ end-rules bytes at (t .inside) e
+
+-- Where a rule is spelled, its end is where that rule ends.
+one-wide : (b : ℕ) (x rest : List ℕ) → Rule ≡ followOf b → width (x ++ rest) ≡ length x → width (b ∷ (x ++ rest)) ≡ suc (length x)
+unfolding widths
+one-wide b x rest f e = ap (λ (y : Follow). widthBy y (suc (length (x ++ rest))) (widths (x ++ rest))) (sym f) ∙ omega arith
+
+two-wide : (b : ℕ) (x y rest : List ℕ) → Rules ≡ followOf b → width (x ++ (y ++ rest)) ≡ length x → width (y ++ rest) ≡ length y
+    → width (b ∷ ((x ++ y) ++ rest)) ≡ suc (length (x ++ y))
+unfolding widths
+two-wide b x y rest f p q =
+    let l = (x ++ y) ++ rest in
+    let same : l ≡ x ++ (y ++ rest) = append-assoc x y rest in
+    let first : width l ≡ length x = ap width same ∙ p in
+    let inside : length x ≤ length l = omega (arith, ap length same, length-append x (y ++ rest)) in
+    let second : getD (widths l) (width l) 0 ≡ length y =
+    ap (λ (n : ℕ). getD (widths l) n 0) first ∙ width-drop l (length x) inside ∙ ap (λ (m : List ℕ). width (drop (length x) m)) same ∙ ap width (drop-append-seam x (y ++ rest)) ∙ q in
+    ap (λ (z : Follow). widthBy z (suc (length l)) (widths l)) (sym f) ∙ omega (arith, first, second, length-append x y)
+
+mutual
+  unfolding walkText widths followOf
+
+  walk-wide : (w : Walk) (rest : List ℕ) → width (walkText w ++ rest) ≡ length (walkText w)
+  walk-wide (act a) rest = omega arith
+  walk-wide (undo a) rest = omega arith
+  walk-wide next rest = refl
+  walk-wide prev rest = refl
+  walk-wide (seq v w) rest = two-wide 59 (walkText v) (walkText w) rest refl (walk-wide v (walkText w ++ rest)) (walk-wide w rest)
+  walk-wide (alt v w) rest = two-wide 124 (walkText v) (walkText w) rest refl (walk-wide v (walkText w ++ rest)) (walk-wide w rest)
+  walk-wide (star w) rest = one-wide 42 (walkText w) rest refl (walk-wide w rest)
+  walk-wide (check t) rest = one-wide 63 (testText t) rest refl (test-wide t rest)
+  walk-wide (conv w) rest = one-wide 45 (walkText w) rest refl (walk-wide w rest)
+
+  test-wide : (t : Test) (rest : List ℕ) → width (testText t ++ rest) ≡ length (testText t)
+  test-wide always rest = refl
+  test-wide (fluent i) rest = omega arith
+  test-wide (neg t) rest = one-wide 33 (testText t) rest refl (test-wide t rest)
+  test-wide (both t u) rest = two-wide 38 (testText t) (testText u) rest refl (test-wide t (testText u ++ rest)) (test-wide u rest)
+  test-wide (diamond w t) rest = two-wide 60 (walkText w) (testText t) rest refl (walk-wide w (testText t ++ rest)) (test-wide t rest)
+
+pub walk-end : (bytes : List ℕ) (at : ℕ) (w : Walk) (rest : List ℕ) → drop at bytes ≡ walkText w ++ rest → endAt bytes at ≡ at + length (walkText w)
+walk-end bytes at w rest e = ap (λ (l : List ℕ). at + width l) e ∙ ap (λ (n : ℕ). at + n) (walk-wide w rest)
+
+pub test-end : (bytes : List ℕ) (at : ℕ) (t : Test) (rest : List ℕ) → drop at bytes ≡ testText t ++ rest → endAt bytes at ≡ at + length (testText t)
+test-end bytes at t rest e = ap (λ (l : List ℕ). at + width l) e ∙ ap (λ (n : ℕ). at + n) (test-wide t rest)
+
+-- The table as it is filled: from a place on it holds the ends, and past the text what it held before.
+pub record Filling (bytes before ends : List ℕ) (at : ℕ) : Type 0 where
+  pub inside : at ≤ length bytes
+  pub short : length bytes ≤ textLimit
+  pub room : length bytes < length ends
+  pub long : length ends ≡ length before
+  pub told : (i : ℕ) → at ≤ i → i ≤ length bytes → getD ends i 0 ≡ endAt bytes i
+  pub kept : (i : ℕ) → length bytes < i → getD ends i 0 ≡ getD before i 0
+
+end-at-end : (bytes : List ℕ) → endAt bytes (length bytes) ≡ length bytes
+unfolding widths
+end-at-end bytes = ap (λ (l : List ℕ). length bytes + width l) (drop-length bytes) ∙ omega arith
+
+-- first the text's own end
+abbrev begun : List ℕ → List ℕ → List ℕ
+begun bytes before = set before (length bytes) (length bytes)
+
+pub filling-starts : (bytes before : List ℕ) → length bytes ≤ textLimit → length bytes < length before → Filling bytes (begun bytes before) (begun bytes before) (length bytes)
+filling-starts bytes before short room = record {
+  inside = omega arith;
+  short = short;
+  room = rw length-set room;
+  long = refl;
+  told = λ i h l.
+      let e : i ≡ length bytes = omega arith in
+      subst⁻¹ (λ (k : ℕ). getD (begun bytes before) k 0 ≡ endAt bytes k) e (getD-set-same before (length bytes) (length bytes) 0 room ∙ sym (end-at-end bytes));
+  kept = λ i h. refl;
+}
+
+pub filling-goes-on : (bytes before ends : List ℕ) (at : ℕ) → 0 < at → Filling bytes before ends at → Filling bytes before (set ends (at - 1) (endAt bytes (at - 1))) (at - 1)
+filling-goes-on bytes before ends at some f = record {
+  inside = omega (arith, f .inside);
+  short = f .short;
+  room = rw length-set (f .room);
+  long = length-set ends (at - 1) (endAt bytes (at - 1)) ∙ f .long;
+  told = λ i h l. go i l (ℕ-discrete i (at - 1)) h;
+  kept = λ i h. getD-set-other ends (at - 1) i (endAt bytes (at - 1)) 0 (omega (arith, f .inside)) ∙ f .kept i h;
+}
+  where
+    go : (i : ℕ) → i ≤ length bytes → Dec (i ≡ at - 1) → at - 1 ≤ i → getD (set ends (at - 1) (endAt bytes (at - 1))) i 0 ≡ endAt bytes i
+    go i l (yes e) h =
+        subst⁻¹ (λ (k : ℕ). getD (set ends (at - 1) (endAt bytes (at - 1))) k 0 ≡ endAt bytes k) e
+        (getD-set-same ends (at - 1) (endAt bytes (at - 1)) 0 (omega (arith, f .inside, f .room)))
+    go i l (no n) h = getD-set-other ends (at - 1) i (endAt bytes (at - 1)) 0 n ∙ f .told i (omega arith) l
+
+pub filling-asks : (bytes before ends : List ℕ) (at : ℕ) → 0 < at → Filling bytes before ends at → TableFrom bytes ends (at - 1)
+filling-asks bytes before ends at some f =
+    record { inside = omega (arith, f .inside); short = f .short; room = f .room; told = λ i h l. f .told i (omega arith) l }
+
+pub filling-ends : (bytes before ends : List ℕ) → Filling bytes (begun bytes before) ends 0 → FillOutcome bytes before ends
+filling-ends bytes before ends f =
+    let same : length ends ≡ length before = f .long ∙ length-set before (length bytes) (length bytes) in
+    record {
+      filled = λ h r. record {
+        long = same;
+        told = λ i. f .told i (omega arith);
+        kept = λ i l. f .kept i l ∙ getD-set-other before (length bytes) i (length bytes) 0 (omega arith);
+      };
+      untouched = ⊎-elim (λ h. absurd (omega (arith, f .short))) (λ h. absurd (omega (arith, f .room)));
+    }
+
+-- else the table is left as it was
+pub filling-left : (bytes before : List ℕ) → (textLimit < length bytes) ⊎ (length before ≤ length bytes) → FillOutcome bytes before before
+filling-left bytes before o = record { filled = λ h r. absurd (⊎-elim (λ l. omega arith) (λ l. omega arith) o); untouched = λ h. refl }
+
+-- The contract of `fill_ends` leaves one table.
+same-filled : (bytes before after after′ : List ℕ) → Filled bytes before after → Filled bytes before after′ → after ≡ after′
+same-filled bytes before after after′ f f′ = ext-getD 0 after after′ (f .long ∙ sym (f′ .long)) (λ i l. at i (decLe i (length bytes)))
+  where
+    at : (i : ℕ) → Dec (i ≤ length bytes) → getD after i 0 ≡ getD after′ i 0
+    at i (yes h) = f .told i h ∙ sym (f′ .told i h)
+    at i (no h) = f .kept i (omega arith) ∙ sym (f′ .kept i (omega arith))
+
+pub fill-ends-determined : (bytes before after after′ : List ℕ) → FillOutcome bytes before after → FillOutcome bytes before after′ → after ≡ after′
+fill-ends-determined bytes before after after′ o o′ = go (decLe (length bytes) textLimit) (decLt (length bytes) (length before))
+  where
+    left : (textLimit < length bytes) ⊎ (length before ≤ length bytes) → after ≡ after′
+    left h = o .untouched h ∙ sym (o′ .untouched h)
+
+    go : Dec (length bytes ≤ textLimit) → Dec (length bytes < length before) → after ≡ after′
+    go (yes h) (yes r) = same-filled bytes before after after′ (o .filled h r) (o′ .filled h r)
+    go (yes h) (no r) = left (inr (omega arith))
+    go (no h) d = left (inl (omega arith))
+
+-- What a filled table tells: where a rule is spelled, it holds where that rule ends.
+spelled-inside : (bytes : List ℕ) (at : ℕ) (r : meaning.Rule) (rest : List ℕ) → drop at bytes ≡ text r ++ rest → at ≤ length bytes
+spelled-inside bytes at r rest e = omega (arith, ap length e, length-append (text r) rest, length-drop at bytes, text-some r)
+
+pub walk-told : (bytes before ends : List ℕ) → Filled bytes before ends → (at : ℕ) (w : Walk) (rest : List ℕ) → drop at bytes ≡ walkText w ++ rest → getD ends at 0 ≡ at + length (walkText w)
+walk-told bytes before ends f at w rest e = f .told at (spelled-inside bytes at (ofWalk w) rest e) ∙ walk-end bytes at w rest e
+
+pub test-told : (bytes before ends : List ℕ) → Filled bytes before ends → (at : ℕ) (t : Test) (rest : List ℕ) → drop at bytes ≡ testText t ++ rest → getD ends at 0 ≡ at + length (testText t)
+test-told bytes before ends f at t rest e = f .told at (spelled-inside bytes at (ofTest t) rest e) ∙ test-end bytes at t rest e

@@ -1,0 +1,28 @@
+-- `answer::step` meets its contract: the arm that binds the number is given that the name is it.
+use borrow.Author.Needs.{needs}
+use mathlib.Core.Path.{sym, ap}
+use Rattle.rule.specs.declared.number.Number.{Number}
+use Rattle.rule.specs.Facts.{stepOf}
+use Rattle.rule.proofs.answer.step.Statement.{statement}
+use Rattle.rule.proofs.answer.step.Tie as tie
+
+enum-told : tie.Need-enum-told
+enum-told c = search needs
+
+enum-known-name : tie.Need-enum-known-name
+enum-known-name c = search needs
+
+cast-t6 : tie.Need-cast-t6
+cast-t6 c = search needs
+
+add-t7 : tie.Need-add-t7
+add-t7 c = search needs
+
+returns : tie.Need-returns
+returns c = search needs
+
+returns-2 : tie.Need-returns-2
+returns-2 c = ap (λ (n : Number). stepOf n (c .before .before .before .args .end) (c .before .before .before .args .turn)) (sym (c .before .name .given .1))
+
+pub step-spec : {M : Type 1} → statement M
+step-spec = tie.close (tie.spec enum-told enum-known-name cast-t6 add-t7 returns returns-2)

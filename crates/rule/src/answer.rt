@@ -1,0 +1,117 @@
+// How the facts of a rule come from those of its parts. Knows no text.
+use crate::Facts;
+use crate::number::Number;
+ghost use mathlib.Core.Path.{_≡_};
+ghost use mathlib.Core.Bool.{_||_};
+ghost use Prim.Native.Nat.{_<_, _^_, max};
+ghost use Rattle.rule.specs.Facts.{depthIn, leafOf, stepOf, fluentOf, aboveOf, besideOf, insideOf};
+
+// What a reader answers: no rule of its kind stands there, or the facts of the one that does.
+pub enum Read {
+    Refused,
+    Found(Facts),
+}
+
+fn larger(a: usize, b: usize) -> usize
+    ensures { λ r. ⌜ r ≡ max a b ⌝ }
+{
+    if a < b { b } else { a }
+}
+
+fn either(a: bool, b: bool) -> bool
+    ensures { λ r. ⌜ r ≡ a || b ⌝ }
+{
+    if a { true } else { b }
+}
+
+// A sign with no part: where it ends, and whether it is a backward sign.
+pub fn leaf(end: usize, turn: bool) -> Read
+    ensures { λ r. ⌜ r ≡ leafOf end turn ⌝ }
+{
+    Read::Found(Facts {
+        end: end,
+        depth: 1,
+        actions: 0,
+        fluents: 0,
+        backward: turn,
+    })
+}
+
+// A step that names an action.
+pub fn step(name: Number, end: usize, turn: bool) -> Read
+    ensures { λ r. ⌜ r ≡ stepOf name end turn ⌝ }
+{
+    match name {
+        Number::Not => Read::Refused,
+        Number::Is(n) => Read::Found(Facts {
+            end: end,
+            depth: 1,
+            actions: (n as usize) + 1,
+            fluents: 0,
+            backward: turn,
+        }),
+    }
+}
+
+// A test that names a fluent.
+pub fn fluent(name: Number, end: usize) -> Read
+    ensures { λ r. ⌜ r ≡ fluentOf name end ⌝ }
+{
+    match name {
+        Number::Not => Read::Refused,
+        Number::Is(n) => Read::Found(Facts {
+            end: end,
+            depth: 1,
+            actions: 0,
+            fluents: (n as usize) + 1,
+            backward: false,
+        }),
+    }
+}
+
+// A sign above one part.
+pub fn above(part: Read, turn: bool) -> Read
+    requires { ⌜ depthIn part < 2 ^ 63 ⌝ }
+    ensures { λ r. ⌜ r ≡ aboveOf part turn ⌝ }
+{
+    match part {
+        Read::Refused => Read::Refused,
+        Read::Found(f) => Read::Found(Facts {
+            end: f.end,
+            depth: f.depth + 1,
+            actions: f.actions,
+            fluents: f.fluents,
+            backward: either(turn, f.backward),
+        }),
+    }
+}
+
+// A sign above two parts, of which the first is read.
+pub fn beside(first: Facts, second: Read) -> Read
+    requires { ⌜ (first .depth < 2 ^ 63) × (depthIn second < 2 ^ 63) ⌝ }
+    ensures { λ r. ⌜ r ≡ besideOf first second ⌝ }
+{
+    match second {
+        Read::Refused => Read::Refused,
+        Read::Found(s) => Read::Found(Facts {
+            end: s.end,
+            depth: larger(first.depth, s.depth) + 1,
+            actions: larger(first.actions, s.actions),
+            fluents: larger(first.fluents, s.fluents),
+            backward: either(first.backward, s.backward),
+        }),
+    }
+}
+
+// The walk of a `<`: no backward sign in it stands outside.
+pub fn inside(walk: Facts) -> Facts
+    ensures { λ r. ⌜ r ≡ insideOf walk ⌝ }
+{
+    Facts {
+        end: walk.end,
+        depth: walk.depth,
+        actions: walk.actions,
+        fluents: walk.fluents,
+        backward: false,
+    }
+}

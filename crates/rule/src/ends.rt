@@ -1,0 +1,69 @@
+// Where each rule of a text ends: a byte for each place, filled from the right. Whoever has read a rule finds by it where a second part begins.
+ghost use mathlib.Core.Path.{_≡_};
+ghost use Prim.Native.Nat.{_<_};
+ghost use lib.ListN.{length};
+ghost use Rattle.rule.specs.Ends.{followOf, TableFrom, endAt, FillOutcome};
+
+// What follows a sign: nothing, the two digits of a number, one rule or two.
+pub enum Follow {
+    Nothing,
+    Digits,
+    Rule,
+    Rules,
+}
+
+fn follows(sign: u8) -> Follow
+    ensures { λ r. ⌜ r ≡ followOf sign ⌝ }
+{
+    match sign {
+        b'a' | b'r' | b'f' => Follow::Digits,
+        b'*' | b'?' | b'-' | b'!' => Follow::Rule,
+        b';' | b'|' => Follow::Rules,
+        b'&' | b'<' => Follow::Rules,
+        _ => Follow::Nothing,
+    }
+}
+
+// Where the rule at a place ends, by the ends of those after it. What is no sign ends after itself, a number at the text's end at the latest.
+fn end_at(text: &[u8], ends: &[u8], at: usize) -> u8
+    requires { ⌜ TableFrom (now text) (now ends) at ⌝ }
+    ensures { λ r. ⌜ r ≡ endAt (now (text .entry)) at ⌝ }
+{
+    let next = at + 1;
+    match follows(text[at]) {
+        Follow::Nothing => next as u8,
+        Follow::Digits => {
+            let left = text.len() - at;
+            if left < 3 {
+                text.len() as u8
+            } else {
+                (at + 3) as u8
+            }
+        }
+        Follow::Rule => ends[next],
+        Follow::Rules => {
+            let middle = ends[next] as usize;
+            ends[middle]
+        }
+    }
+}
+
+// A text over 255 bytes is no rule's, and a table has a byte more than its text: else nothing is changed.
+pub fn fill_ends(text: &[u8], ends: &mut [u8])
+    ensures { λ _. ⌜ FillOutcome (now (text .entry)) (now (ends .entry)) (now (ends .exit)) ⌝ }
+{
+    let length = text.len();
+    if 255 < length {
+        return;
+    }
+    if ends.len() <= length {
+        return;
+    }
+    let mut at = length;
+    ends[at] = at as u8;
+    while 0 < at {
+        at -= 1;
+        let end = end_at(text, ends, at);
+        ends[at] = end;
+    }
+}

@@ -1,0 +1,15 @@
+pub mod Rows
+pub mod Numeral
+pub mod Bytes
+pub mod Ends
+pub mod Say
+pub mod Forms
+pub mod Parts
+pub mod MaskRow
+pub mod LogText
+pub mod Order
+pub mod Acts
+pub mod RuleLine
+pub mod Whole
+pub mod Last
+pub mod Determined

@@ -1,0 +1,12 @@
+pub mod Limits
+pub mod Numeral
+pub mod Line
+pub mod Forms
+pub mod Lines
+pub mod Scan
+pub mod Found
+pub mod Act
+pub mod Log
+pub mod Onward
+pub mod Answer
+pub mod Sections

@@ -1,0 +1,115 @@
+// One line of a sheet: its key and its LF, and the lines that say a number.
+ghost use mathlib.Core.Path.{_≡_};
+ghost use Prim.Native.Nat.{ℕ, _≤_, _<_, _^_};
+ghost use lib.ListN.{length};
+ghost use Rattle.meaning.specs.Limits.{fluentLimit};
+ghost use Rattle.sheet.specs.Numeral.{numeral};
+ghost use Rattle.sheet.specs.Forms.{numberForm, startForm};
+ghost use Rattle.sheet.specs.Found.{LineFound, LineRead};
+use crate::Cursor;
+use crate::Digits;
+use crate::Fault;
+use crate::LineAnswer;
+use crate::scan;
+use refusal::Refusal;
+use theory::faults;
+
+// The line with this key at this place, whatever its value is.
+pub fn line_at(sheet: &[u8], at: usize, line: usize, key: &[u8]) -> LineAnswer
+    requires { ⌜ at ≤ length (now sheet) ⌝ }
+    ensures { λ r. ⌜ LineFound (now (key .entry)) (now (sheet .entry)) at line r ⌝ }
+{
+    if scan::opens_with(sheet, at, key) {
+        let start = at + key.len();
+        let end = scan::find_lf(sheet, start);
+        if end < sheet.len() {
+            return LineAnswer::Next(Cursor {
+                line,
+                start,
+                end,
+                number: 0,
+            });
+        }
+    }
+    LineAnswer::Faulty(Fault {
+        refusal: Refusal::BadLine,
+        line,
+    })
+}
+
+// A line that says a number of so many decimal digits in a range: the version, a count, *more*.
+pub fn number_line(
+    sheet: &[u8],
+    at: usize,
+    line: usize,
+    key: &[u8],
+    width: usize,
+    low: u32,
+    high: u32,
+) -> LineAnswer
+    requires { ⌜ (at ≤ length (now sheet)) × (high < 10 ^ width) × (10 ^ width ≤ 2 ^ 32) ⌝ }
+    ensures { λ r. ⌜ LineRead (numberForm (now (key .entry)) (numeral 10 width) low high) (now (sheet .entry)) at line (λ c. c .number) r ⌝ }
+{
+    let bad = LineAnswer::Faulty(Fault {
+        refusal: Refusal::BadNumber,
+        line,
+    });
+    match line_at(sheet, at, line, key) {
+        LineAnswer::Faulty(f) => LineAnswer::Faulty(f),
+        LineAnswer::Next(c) => {
+            let start = c.start;
+            let end = c.end;
+            match scan::number_in(sheet, start, end, width, 10) {
+                Digits::Other => bad,
+                Digits::Number(n) => {
+                    if n < low {
+                        return bad;
+                    }
+                    if high < n {
+                        return bad;
+                    }
+                    LineAnswer::Next(Cursor {
+                        line,
+                        start,
+                        end,
+                        number: n,
+                    })
+                }
+            }
+        }
+    }
+}
+
+// The start state.
+pub fn start_line(sheet: &[u8], at: usize, line: usize, fluents: usize) -> LineAnswer
+    requires { ⌜ (at ≤ length (now sheet)) × (fluents ≤ fluentLimit) ⌝ }
+    ensures { λ r. ⌜ LineRead (startForm fluents) (now (sheet .entry)) at line (λ c. c .number) r ⌝ }
+{
+    match line_at(sheet, at, line, b"start=") {
+        LineAnswer::Faulty(f) => LineAnswer::Faulty(f),
+        LineAnswer::Next(c) => {
+            let start = c.start;
+            let end = c.end;
+            match scan::number_in(sheet, start, end, 8, 16) {
+                Digits::Other => LineAnswer::Faulty(Fault {
+                    refusal: Refusal::BadNumber,
+                    line,
+                }),
+                Digits::Number(n) => {
+                    if faults::names_lacking(fluents, n) {
+                        return LineAnswer::Faulty(Fault {
+                            refusal: Refusal::LacksFluent,
+                            line,
+                        });
+                    }
+                    LineAnswer::Next(Cursor {
+                        line,
+                        start,
+                        end,
+                        number: n,
+                    })
+                }
+            }
+        }
+    }
+}

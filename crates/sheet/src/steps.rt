@@ -1,0 +1,79 @@
+// The log line: two digits an action, which go into the lent log.
+ghost use mathlib.Core.Path.{_≡_};
+ghost use Prim.Native.Nat.{_≤_};
+ghost use lib.ListN.{length, take};
+ghost use Rattle.meaning.specs.Limits.{actionLimit, logLimit};
+ghost use Rattle.sheet.specs.Scan.{stretch};
+ghost use Rattle.sheet.specs.Forms.{logForm};
+ghost use Rattle.sheet.specs.Found.{LineRead};
+ghost use Rattle.sheet.specs.Log.{StepsRead, LogKept};
+use crate::Cursor;
+use crate::Digits;
+use crate::Fault;
+use crate::LineAnswer;
+use crate::line;
+use crate::scan;
+use refusal::Refusal;
+use theory::LOG_LIMIT;
+use theory::faults;
+
+// Reads the steps of a stretch into the log: how many they are, if they are written as they should be and not too many.
+pub fn read_steps(sheet: &[u8], start: usize, end: usize, log: &mut [u8]) -> Digits
+    requires { ⌜ (start ≤ end) × (end ≤ length (now sheet)) × (logLimit ≤ length (now log)) ⌝ }
+    ensures { λ r. ⌜ StepsRead (stretch (now (sheet .entry)) start end) (now (log .entry)) (now (log .exit)) r ⌝ }
+{
+    let size = end - start;
+    let count = size / 2;
+    if 2 * count != size {
+        return Digits::Other;
+    }
+    if LOG_LIMIT < count {
+        return Digits::Other;
+    }
+    let mut i = 0;
+    while i < count {
+        match scan::number_at(sheet, start + 2 * i, 2, 10) {
+            Digits::Other => {
+                return Digits::Other;
+            }
+            Digits::Number(n) => {
+                log[i] = n as u8;
+            }
+        }
+        i += 1;
+    }
+    Digits::Number(count as u32)
+}
+
+// The log line, whose steps go to the front of the log. Its number is how many they are.
+pub fn log_line(sheet: &[u8], at: usize, line: usize, actions: usize, log: &mut [u8]) -> LineAnswer
+    requires { ⌜ (at ≤ length (now sheet)) × (actions ≤ actionLimit) × (logLimit ≤ length (now log)) ⌝ }
+    ensures { λ r. ⌜ LineRead (logForm actions) (now (sheet .entry)) at line (λ c. take (c .number) (now (log .exit))) r × LogKept (now (log .entry)) (now (log .exit)) r ⌝ }
+{
+    let bad = LineAnswer::Faulty(Fault {
+        refusal: Refusal::BadLog,
+        line,
+    });
+    match line::line_at(sheet, at, line, b"log=") {
+        LineAnswer::Faulty(f) => LineAnswer::Faulty(f),
+        LineAnswer::Next(c) => {
+            let start = c.start;
+            let end = c.end;
+            match read_steps(sheet, start, end, log) {
+                Digits::Other => bad,
+                Digits::Number(n) => {
+                    let count = n as usize;
+                    if faults::bad_log(actions, &log[..count]) {
+                        return bad;
+                    }
+                    LineAnswer::Next(Cursor {
+                        line,
+                        start,
+                        end,
+                        number: n,
+                    })
+                }
+            }
+        }
+    }
+}
