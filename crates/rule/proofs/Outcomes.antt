@@ -9,7 +9,7 @@ use native.Mathlib.Omega.{arith}
 use lib.ListN.{length, take, drop, length-append, length-drop}
 use lib.Seq.{take-all, drop-append-seam}
 use Rattle.meaning.specs.Limits.{textLimit, depthLimit}
-use Rattle.meaning.specs.Rule.{Kind, testKind, walkKind, jobKind, Rule, Opens, text}
+use Rattle.meaning.specs.Rule.{Kind, testKind, walkKind, jobKind, Rule, Opens, text, depth, actionsIn, fluentsIn, backwardIn}
 use Rattle.meaning.specs.Refusal.{Row, _when_, Applies, Refused, Accepted, BadCounts, BadNames, TooDeep, BadJob}
 use Rattle.meaning.proofs.Refusal.{refused-unique, refused-not-accepted, past, here, accepts, passes}
 use Rattle.meaning.proofs.Reading.{unique-reading}
@@ -170,6 +170,29 @@ module _ (kind : Kind) (bytes : List ℕ) (fluents actions : ℕ) (f : Facts) (f
 
   pub handed-back : ReadOutcome kind bytes fluents actions 0 (take (length bytes - f .end) (drop (f .end) bytes))
   handed-back = inl (record { none = refl; accepted = fit .accepted; rule = fit .rule; opens = subst⁻¹ (Opens kind bytes (fit .rule)) part-is (fit .spells .1) })
+
+-- What an accepted rule has: the theory knows its names, it is no deeper than the limit, and as a job it has no backward sign outside a `<` walk.
+pub record Known (kind : Kind) (fluents actions : ℕ) (r : Rule) : Type 0 where
+  pub knownActions : actionsIn r ≤ actions
+  pub knownFluents : fluentsIn r ≤ fluents
+  pub shallow : depth r ≤ depthLimit
+  pub onward : kind ≡ jobKind → backwardIn r ≡ true → ⊥
+
+pub fits-known : (whole : Bool) (kind : Kind) (bytes : List ℕ) (fluents actions : ℕ) (f : Facts) (fit : Fitting whole kind bytes fluents actions f)
+    → Known kind fluents actions (fit .rule)
+fits-known whole kind bytes fluents actions f fit =
+    let faults : (fault : Rule → Type 0) → fault (fit .rule) → With (Spelled whole kind bytes) fault =
+    λ fault h. record { rule = fit .rule; spells = fit .spells; faulty = h } in
+    let names : BadNames fluents actions (fit .rule) → ⊥ = λ h. fit .accepted 7 (inr (inr (inl (refl, faults (BadNames fluents actions) h)))) in
+    let deep : TooDeep (fit .rule) → ⊥ = λ h. fit .accepted 8 (inr (inr (inr (inl (refl, faults TooDeep h))))) in
+    let lacks-action : ¬ (actions < actionsIn (fit .rule)) = λ h. names (inl h) in
+    let lacks-fluent : ¬ (fluents < fluentsIn (fit .rule)) = λ h. names (inr h) in
+    record {
+      knownActions = omega arith;
+      knownFluents = omega arith;
+      shallow = omega arith;
+      onward = λ k b. fit .accepted 9 (inr (inr (inr (inr (inl (refl, faults (BadJob kind) (k, b)))))));
+    }
 
 -- The contracts leave one outcome. Of `read_rule`: two numbers and parts that it allows are equal.
 pub read-rule-determined : (kind : Kind) (bytes : List ℕ) (fluents actions n n′ : ℕ) (part part′ : List ℕ)

@@ -12,6 +12,7 @@ pub enum Follow {
     Rules,
 }
 
+// What follows a sign, walk's or test's: no byte is a sign of both.
 fn follows(sign: u8) -> Follow
     ensures { λ r. ⌜ r ≡ followOf sign ⌝ }
 {

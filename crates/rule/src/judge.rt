@@ -10,6 +10,7 @@ ghost use Rattle.meaning.specs.Refusal.{BadCounts};
 ghost use Rattle.rule.specs.Read.{ReadAt};
 ghost use Rattle.rule.specs.Outcome.{kindOf, Says, OpenedAs, JudgedAs, CheckedAs};
 
+// Document 01: "Fluents are numbered 00 to at most 31, actions 00 to at most 63", "1 to 255 bytes", "Depth: .. at most 24".
 const FLUENTS: usize = 32;
 
 const ACTIONS: usize = 64;
@@ -18,6 +19,7 @@ const TEXT: usize = 255;
 
 const DEPTH: usize = 24;
 
+// Refusal 3: a count out of its range.
 fn bad_counts(fluents: usize, actions: usize) -> bool
     ensures { λ r. ⌜ Says r (BadCounts fluents actions) ⌝ }
 {
@@ -30,6 +32,7 @@ fn bad_counts(fluents: usize, actions: usize) -> bool
     if ACTIONS < actions { true } else { false }
 }
 
+// A job is read as a walk is.
 fn read_kind(text: &[u8], kind: Kind) -> Read
     ensures { λ r. ⌜ ReadAt (kindOf kind) (now (text .entry)) 0 r ⌝ }
 {
@@ -62,6 +65,7 @@ fn opening(text: &[u8], kind: Kind, whole: bool) -> Read
     }
 }
 
+// Refusals 7, 8 and 9: what the facts of a rule decide, smallest number first.
 fn judge(f: Facts, kind: Kind, fluents: usize, actions: usize) -> Checked
     ensures { λ r. ⌜ JudgedAs (kindOf kind) fluents actions f r ⌝ }
 {
@@ -87,6 +91,7 @@ fn judge(f: Facts, kind: Kind, fluents: usize, actions: usize) -> Checked
     }
 }
 
+// All checks of a rule in the order of their numbers; with `whole`, nothing may follow the rule.
 pub fn survey(text: &[u8], kind: Kind, fluents: usize, actions: usize, whole: bool) -> Checked
     ensures { λ r. ⌜ CheckedAs whole (kindOf kind) (now (text .entry)) fluents actions r ⌝ }
 {

@@ -26,6 +26,7 @@ pub struct Facts {
     pub backward: bool,
 }
 
+// What a rule is found to be: refused, or fit, with its facts.
 pub enum Checked {
     Refused(Refusal),
     Fits(Facts),

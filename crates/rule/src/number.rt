@@ -12,6 +12,7 @@ pub enum Number {
     Not,
 }
 
+// Whether a byte is a digit, and which.
 fn digit_of(b: u8) -> Digit
     ensures { λ r. ⌜ IsDigit b r ⌝ }
 {
@@ -21,6 +22,7 @@ fn digit_of(b: u8) -> Digit
     }
 }
 
+// The number that two digits make.
 fn pair(tens: Digit, ones: Digit) -> Number
     ensures { λ r. ⌜ r ≡ pairOf tens ones ⌝ }
 {

@@ -13,3 +13,5 @@ pub mod RuleLine
 pub mod Whole
 pub mod Last
 pub mod Determined
+pub mod Accepted
+pub mod Longest

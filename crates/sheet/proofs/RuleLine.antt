@@ -22,7 +22,7 @@ pub rule-clear : (key : List ℕ) (kind : Kind) (fluents actions : ℕ) → Clea
 rule-clear key kind fluents actions a b ra rb e = e
 
 -- counts that a sheet's head says are in range
-counts-good : (fluents actions : ℕ) → fluents ≤ fluentLimit → 1 ≤ actions → actions ≤ actionLimit → BadCounts fluents actions → ⊥
+pub counts-good : (fluents actions : ℕ) → fluents ≤ fluentLimit → 1 ≤ actions → actions ≤ actionLimit → BadCounts fluents actions → ⊥
 counts-good fluents actions few some less =
     ⊎-elim (λ h. omega arith) (⊎-elim (λ h. omega arith) (λ h. omega arith))
 

@@ -10,3 +10,4 @@ pub mod Log
 pub mod Onward
 pub mod Answer
 pub mod Sections
+pub mod Legal

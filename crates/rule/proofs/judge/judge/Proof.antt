@@ -6,6 +6,7 @@ use Rattle.meaning.proofs.Refusal.{here}
 use Rattle.rule.specs.Outcome.{kindOf}
 use Rattle.rule.proofs.Outcomes as laws
 use borrow.Author.Needs.{needs}
+use native.Mathlib.Omega.{arith}
 use Rattle.rule.proofs.judge.judge.Statement.{statement}
 use Rattle.rule.proofs.judge.judge.Tie as tie
 
@@ -18,7 +19,7 @@ returns-2 c = here tt (inr (c .if2 .taken))
 returns-3 : tie.Need-returns-3
 returns-3 c =
     let e = c .before .before .before .before .before .before in
-    laws.judged-deep (kindOf (e .args .kind)) (e .args .fluents) (e .args .actions) (e .args .f) (c .before .before .before .before .if1 .left) (c .before .before .if2 .left) (c .if3 .taken)
+    laws.judged-deep (kindOf (e .args .kind)) (e .args .fluents) (e .args .actions) (e .args .f) (c .before .before .before .before .if1 .left) (c .before .before .if2 .left) (omega (arith, c .if3 .taken))
 
 enum-told : tie.Need-enum-told
 enum-told c = search needs
@@ -32,22 +33,22 @@ enum-told-3 c = search needs
 returns-4 : tie.Need-returns-4
 returns-4 c =
     let e = c .before .before .before .before .before .before .before .before .before in
-    laws.judged-backward (kindOf (e .args .kind)) (e .args .fluents) (e .args .actions) (e .args .f) (c .before .before .before .before .before .before .before .if1 .left) (c .before .before .before .before .before .if2 .left) (c .before .before .before .if3 .left) (ap kindOf (c .before .enum-told .given .1)) (c .if4 .taken)
+    laws.judged-backward (kindOf (e .args .kind)) (e .args .fluents) (e .args .actions) (e .args .f) (c .before .before .before .before .before .before .before .if1 .left) (c .before .before .before .before .before .if2 .left) (omega (arith, c .before .before .before .if3 .left)) (ap kindOf (c .before .enum-told .given .1)) (c .if4 .taken)
 
 returns-5 : tie.Need-returns-5
 returns-5 c =
     let e = c .before .before .before .before .before .before .before .before .before in
-    laws.judged-fits (kindOf (e .args .kind)) (e .args .fluents) (e .args .actions) (e .args .f) (c .before .before .before .before .before .before .before .if1 .left) (c .before .before .before .before .before .if2 .left) (c .before .before .before .if3 .left) (λ h. true≢false (sym (h .1) ∙ c .if4 .left))
+    laws.judged-fits (kindOf (e .args .kind)) (e .args .fluents) (e .args .actions) (e .args .f) (c .before .before .before .before .before .before .before .if1 .left) (c .before .before .before .before .before .if2 .left) (omega (arith, c .before .before .before .if3 .left)) (λ h. true≢false (sym (h .1) ∙ c .if4 .left))
 
 returns-6 : tie.Need-returns-6
 returns-6 c =
     let e = c .before .before .before .before .before .before .before .before in
-    laws.judged-fits (kindOf (e .args .kind)) (e .args .fluents) (e .args .actions) (e .args .f) (c .before .before .before .before .before .before .if1 .left) (c .before .before .before .before .if2 .left) (c .before .before .if3 .left) (λ h. laws.test-no-job (sym (ap kindOf (c .enum-told2 .given .1)) ∙ h .0))
+    laws.judged-fits (kindOf (e .args .kind)) (e .args .fluents) (e .args .actions) (e .args .f) (c .before .before .before .before .before .before .if1 .left) (c .before .before .before .before .if2 .left) (omega (arith, c .before .before .if3 .left)) (λ h. laws.test-no-job (sym (ap kindOf (c .enum-told2 .given .1)) ∙ h .0))
 
 returns-7 : tie.Need-returns-7
 returns-7 c =
     let e = c .before .before .before .before .before .before .before .before in
-    laws.judged-fits (kindOf (e .args .kind)) (e .args .fluents) (e .args .actions) (e .args .f) (c .before .before .before .before .before .before .if1 .left) (c .before .before .before .before .if2 .left) (c .before .before .if3 .left) (λ h. laws.walk-no-job (sym (ap kindOf (c .enum-told3 .given .1)) ∙ h .0))
+    laws.judged-fits (kindOf (e .args .kind)) (e .args .fluents) (e .args .actions) (e .args .f) (c .before .before .before .before .before .before .if1 .left) (c .before .before .before .before .if2 .left) (omega (arith, c .before .before .if3 .left)) (λ h. laws.walk-no-job (sym (ap kindOf (c .enum-told3 .given .1)) ∙ h .0))
 
 pub judge-spec : {M : Type 1} → statement M
 judge-spec =

@@ -5,6 +5,7 @@ use Rattle.rule.specs.Read.{ReadAt}
 use Rattle.rule.specs.Outcome.{kindOf, Unspelled, Opening}
 use Rattle.rule.proofs.Outcomes as laws
 use borrow.Author.Needs.{needs}
+use native.Mathlib.Omega.{arith}
 use Rattle.rule.proofs.judge.opening.Statement.{statement}
 use Rattle.rule.proofs.judge.opening.Tie as tie
 
@@ -13,7 +14,7 @@ returns c =
     let e = c .before .before in
     let kind = kindOf (e .args .kind) in
     let text = e .args .text .now in
-    laws.too-long kind text (e .args .whole) (c .if1 .taken)
+    laws.too-long kind text (e .args .whole) (omega (arith, c .if1 .taken))
 
 read-kind-requires : tie.Need-read-kind-requires
 read-kind-requires c κs = search needs
@@ -47,7 +48,7 @@ returns-4 c =
     let text = e .args .text .now in
     let f = c .before .before .before .f .given .0 .0 in
     let found = subst (ReadAt kind text 0) (c .before .before .before .f .given .1) (c .before .before .before .before .before .read-kind .ensures) in
-    subst⁻¹ (λ (w : Bool). Opening w kind text f) (c .before .if2 .taken) (laws.opens-whole kind text f (c .before .before .before .before .before .before .if1 .left) (c .if3 .left) found)
+    subst⁻¹ (λ (w : Bool). Opening w kind text f) (c .before .if2 .taken) (laws.opens-whole kind text f (omega (arith, c .before .before .before .before .before .before .if1 .left)) (c .if3 .left) found)
 
 returns-5 : tie.Need-returns-5
 returns-5 c =
@@ -56,7 +57,7 @@ returns-5 c =
     let text = e .args .text .now in
     let f = c .before .before .f .given .0 .0 in
     let found = subst (ReadAt kind text 0) (c .before .before .f .given .1) (c .before .before .before .before .read-kind .ensures) in
-    subst⁻¹ (λ (w : Bool). Opening w kind text f) (c .if2 .left) (laws.opens-part kind text f (c .before .before .before .before .before .if1 .left) found)
+    subst⁻¹ (λ (w : Bool). Opening w kind text f) (c .if2 .left) (laws.opens-part kind text f (omega (arith, c .before .before .before .before .before .if1 .left)) found)
 
 pub opening-spec : {M : Type 1} → statement M
 opening-spec =

@@ -1,0 +1,168 @@
+// Runs the reading of rules on a table of cases and compares: the number and the rest that reading one rule gives, and the number for exactly one
+// rule. One line a case; then a table of ends.
+use libc::STDOUT_FILENO;
+use rule::Checked;
+use rule::Kind;
+
+fn say(text: &[u8]) {
+    io::write_all(STDOUT_FILENO, text);
+}
+
+fn verdict(good: bool, name: &[u8]) {
+    if good {
+        say(b"ok ");
+    } else {
+        say(b"WRONG ");
+    }
+    say(name);
+    say(b"\n");
+}
+
+fn number_of(checked: Checked) -> u8 {
+    match checked {
+        Checked::Refused(why) => refusal::number(why),
+        Checked::Fits(_) => 0,
+    }
+}
+
+// One row: the call's input, then the number and how many bytes are left over by `read_rule`, and the number by `check_rule`.
+fn row(
+    name: &[u8],
+    text: &[u8],
+    kind: Kind,
+    fluents: usize,
+    actions: usize,
+    read: u8,
+    left: usize,
+    check: u8,
+) {
+    let mut refusal = 99u8;
+    let rest = rule::read_rule(text, kind, fluents, actions, &mut refusal);
+    let over = rest.len();
+    let checked = number_of(rule::check_rule(text, kind, fluents, actions));
+    let mut good = true;
+    if refusal != read {
+        good = false;
+    }
+    if over != left {
+        good = false;
+    }
+    if checked != check {
+        good = false;
+    }
+    verdict(good, name);
+}
+
+fn lengths_and_depths() {
+    let mut deep = [b'!'; 256];
+    deep[255] = b'1';
+    let all = &deep[..];
+    row(b"0 bytes", &all[256..], Kind::Test, 0, 1, 6, 0, 6);
+    row(b"256 bytes", all, Kind::Test, 0, 1, 6, 0, 6);
+    row(b"254 ! and a 1", &all[1..], Kind::Test, 0, 1, 8, 0, 8);
+    row(b"24 ! and a 1", &all[231..], Kind::Test, 0, 1, 8, 0, 8);
+    row(b"23 ! and a 1", &all[232..], Kind::Test, 0, 1, 0, 0, 0);
+}
+
+fn names() {
+    row(b"a6", b"a6", Kind::Walk, 32, 64, 6, 0, 6);
+    row(b"a64 with 64 actions", b"a64", Kind::Walk, 32, 64, 7, 0, 7);
+    row(b"a63 with 64 actions", b"a63", Kind::Walk, 32, 64, 0, 0, 0);
+    row(b"f00 with no fluents", b"f00", Kind::Test, 0, 1, 7, 0, 7);
+    row(b"f31 with 32 fluents", b"f31", Kind::Test, 32, 1, 0, 0, 0);
+}
+
+fn signs() {
+    row(b"bytes over 127", b"\xc3\xa4", Kind::Walk, 32, 64, 6, 0, 6);
+    row(
+        b"a digit where a sign is due",
+        b"*7",
+        Kind::Walk,
+        32,
+        64,
+        6,
+        0,
+        6,
+    );
+    row(b"a walk for a test", b"n", Kind::Test, 32, 64, 6, 0, 6);
+    row(b"a test for a walk", b"1", Kind::Walk, 32, 64, 6, 0, 6);
+}
+
+fn rests() {
+    row(
+        b"the second part missing",
+        b";a00",
+        Kind::Walk,
+        32,
+        64,
+        6,
+        0,
+        6,
+    );
+    row(b"11", b"11", Kind::Test, 0, 1, 0, 1, 6);
+    row(
+        b"a rest that is no rule",
+        b"<-;a00*n1\xff\xff",
+        Kind::Test,
+        0,
+        1,
+        0,
+        2,
+        6,
+    );
+}
+
+fn jobs() {
+    row(b"job u", b"u", Kind::Job, 0, 1, 9, 0, 9);
+    row(b"walk u", b"u", Kind::Walk, 0, 1, 0, 0, 0);
+    row(b"job ?<u1", b"?<u1", Kind::Job, 0, 1, 0, 0, 0);
+    row(
+        b"job with r in a choice",
+        b"|a00*r00",
+        Kind::Job,
+        0,
+        1,
+        9,
+        0,
+        9,
+    );
+    row(b"job with a converse", b";n-n", Kind::Job, 0, 1, 9, 0, 9);
+}
+
+fn smallest_first() {
+    row(b"33 fluents", b"a6", Kind::Walk, 33, 64, 3, 0, 3);
+    row(b"no actions", b"1", Kind::Test, 0, 0, 3, 0, 3);
+    row(b"65 actions", b"1", Kind::Test, 0, 65, 3, 0, 3);
+    row(b"7 before 9", b"r05", Kind::Job, 0, 1, 7, 0, 7);
+    row(
+        b"a rest is found before a name",
+        b"a05n",
+        Kind::Walk,
+        0,
+        1,
+        7,
+        0,
+        6,
+    );
+}
+
+// In -;a00*n the sequence ends with the text, its first part before the star; past the text the table is left.
+fn table_of_ends() {
+    let mut ends = [99u8; 12];
+    rule::ends::fill_ends(b"-;a00*n", &mut ends);
+    verdict(ends[1] == 7, b"the sequence ends at 7");
+    verdict(ends[2] == 5, b"its first part ends at 5");
+    verdict(ends[5] == 7, b"its second part ends at 7");
+    verdict(ends[7] == 7, b"the text ends at 7");
+    verdict(ends[8] == 99, b"nothing is written past it");
+}
+
+fn main() {
+    lengths_and_depths();
+    names();
+    signs();
+    rests();
+    jobs();
+    smallest_first();
+    table_of_ends();
+}
