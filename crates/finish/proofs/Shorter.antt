@@ -25,9 +25,6 @@ module _ (actions start : ℕ) (masks job : List ℕ) where
   abbrev pub Fewer : List ℕ → ℕ → Type 0
   Fewer log k = (fluents : ℕ) (x : Walk) → JobIs job x → (j : ℕ) → j < k → NoneOf j (Of log fluents) x
 
-  pub fewer-none : (log : List ℕ) → Fewer log 0
-  fewer-none log fluents x i j h = absurd (omega arith)
-
   pub fewer-more : (trail now last : List ℕ) (n k : ℕ) → take n now ≡ take n trail → LengthTold actions start masks job now n k last false
       → Fewer (take n trail) k → Fewer (take n trail) (k + 1)
   fewer-more trail now last n k same told fewer fluents x i j h = elim (ℕ-discrete j k) [

@@ -42,9 +42,6 @@ module _ (actions start : ℕ) (masks job : List ℕ) where
   abbrev pub Passed : List ℕ → ℕ → ℕ → Type 0
   Passed log k a = (fluents : ℕ) (x : Walk) → JobIs job x → (b : ℕ) → b < a → NoneAfter k (At log fluents) x b
 
-  pub passed-none : (log : List ℕ) (k : ℕ) → Passed log k 0
-  passed-none log k fluents x j b h = absurd (omega arith)
-
   passed-more : (log : List ℕ) (k a fluents : ℕ) (x : Walk) → ((b : ℕ) → b < a → NoneAfter k (At log fluents) x b) → NoneAfter k (At log fluents) x a
       → (b : ℕ) → b < a + 1 → NoneAfter k (At log fluents) x b
   passed-more log k a fluents x less one b h = elim (ℕ-discrete b a) [

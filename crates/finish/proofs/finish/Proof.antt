@@ -61,7 +61,7 @@ returns-2 : tie.Need-returns-2
 returns-2 c =
     let a = c .before .before .before .before .before .before .before .before .before .before .before .before .args in
     inr (record {
-      refused = short-refused (a .fluents) (a .actions) (a .start) (now (a .masks)) (now (a .log)) (now (a .job)) (a .more) (length (now (a .out))) (few (c .before .before .before .before .before .before .before)) (world (c .before .before .before .before)) (fitting (c .before) .accepted) (c .if2 .taken);
+      refused = short-refused (a .fluents) (a .actions) (a .start) (now (a .masks)) (now (a .log)) (now (a .job)) (a .more) (length (now (a .out))) (few (c .before .before .before .before .before .before .before)) (world (c .before .before .before .before)) (fitting (c .before) .accepted) (omega (arith, c .if2 .taken));
       none = refl;
       kept = refl;
     })

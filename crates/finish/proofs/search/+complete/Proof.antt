@@ -10,7 +10,7 @@ use borrow.Fn.PlainCycle.{Measures, is, falls, and}
 use denote.Ref.{now}
 use lib.ListN.{length, length-set, take}
 use lib.Seq.{length-take-le}
-use Rattle.finish.proofs.Trail.{Passed, bit-on, bit-off, passed-none, leaf-told, passed-out, passed-tried, kept-tried, tried-told, none-told, place, ready-more}
+use Rattle.finish.proofs.Trail.{Passed, bit-on, bit-off, leaf-told, passed-out, passed-tried, kept-tried, tried-told, none-told, place, ready-more}
 use Rattle.finish.proofs.search.complete.Reads as reads
 use Rattle.finish.proofs.search.complete.Kinds as kinds
 use Rattle.finish.proofs.search.+complete.Lts-complete as lts
@@ -76,9 +76,7 @@ tries-requires : (t : ℕ) → lts.Need-tries-requires (calls t) (given t) reads
 tries-requires t c κs = c .before .before .before .before .before .before .pre .1 .node
 
 loop-holds : (t : ℕ) → lts.Need-loop-holds (calls t) (given t) reads.Post Inv μ-loop
-loop-holds t c =
-    let a = c .before .before .before .before .before .before .before .args in
-    (omega arith, refl, refl, passed-none (a .actions) (a .start) (now (a .masks)) (now (a .job)) (take (a .n) (now (a .trail))) (a .left - 1))
+loop-holds t c = (omega arith, refl, refl, λ fluents x j b h. absurd (omega arith))
 
 shr-from-a : (t : ℕ) → lts.Need-shr-from-a (calls t) (given t) reads.Post Inv μ-loop
 shr-from-a t c = omega arith

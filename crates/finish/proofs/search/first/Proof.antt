@@ -4,7 +4,7 @@ use Prim.Native.Nat.{_-_, _+_, _≤_}
 use native.Mathlib.Omega.{arith}
 use denote.Ref.{now}
 use lib.ListN.{length, take}
-use Rattle.finish.proofs.Shorter.{Fewer, fewer-none, fewer-more, at-told, nothing-told, ready-again}
+use Rattle.finish.proofs.Shorter.{Fewer, fewer-more, at-told, nothing-told, ready-again}
 use Rattle.finish.proofs.search.first.Statement.{statement}
 use Rattle.finish.proofs.search.first.Tie as tie
 
@@ -19,9 +19,7 @@ longest-requires : tie.Need-longest-requires Inv-loop μ-loop
 longest-requires c κs = omega arith
 
 loop-holds : tie.Need-loop-holds Inv-loop μ-loop
-loop-holds c =
-    let a = c .before .before .before .before .before .args in
-    (omega arith, refl, refl, fewer-none (a .actions) (a .start) (now (a .masks)) (now (a .job)) (take (a .n) (now (a .trail))))
+loop-holds c = (omega arith, refl, refl, λ fluents x i j h. absurd (omega arith))
 
 complete-requires : tie.Need-complete-requires Inv-loop μ-loop
 complete-requires c κs =
@@ -52,12 +50,14 @@ loop-again : tie.Need-loop-again Inv-loop μ-loop
 loop-again c =
     let a = c .before .before .before .before .before .before .before .before .before .before .before .before .args in
     let k = c .before .before .before .before .before .before .loop in
-    let call = c .before .before .before .complete in (
+    let call = c .before .before .before .complete in
+    let last = call .last .1 .1 .1 .1 .1 .0 in
+    let kept : take (a .n) last ≡ take (a .n) (k .trail) = call .ensures .kept in (
       omega arith,
       call .kept .1 .1 .1 .1 .1 .0 ∙ k .inv .1,
-      call .ensures .kept ∙ k .inv .2,
-      fewer-more (a .actions) (a .start) (now (a .masks)) (now (a .job)) (now (a .trail)) (k .trail) (call .last .1 .1 .1 .1 .1 .0) (a .n) (k .k)
-          (k .inv .2) (rw (c .if1 .left) at (call .ensures)) (k .inv .3),
+      kept ∙ k .inv .2,
+      fewer-more (a .actions) (a .start) (now (a .masks)) (now (a .job)) (now (a .trail)) (k .trail) last (a .n) (k .k) (k .inv .2)
+          (rw (c .if1 .left) at (call .ensures)) (k .inv .3),
     )
 
 same-length-2 : tie.Need-same-length-2 Inv-loop μ-loop

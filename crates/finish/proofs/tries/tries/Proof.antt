@@ -1,8 +1,9 @@
 -- `finish::tries::tries` meets its contract: an action that is not possible, or that the job does not ask for, begins no rest.
-use mathlib.Core.Path.{sym, _∙_}
+use mathlib.Core.Path.{_≡_, sym, _∙_}
 use native.Mathlib.Omega.{arith}
 use denote.Ref.{now}
 use lib.ListN.{length}
+use Rattle.meaning.specs.Theory.{stateAt}
 use Rattle.meaning.proofs.Theory.{state-end}
 use Rattle.positions.specs.Positions.{holds}
 use Rattle.theory.specs.World.{worldOf}
@@ -50,8 +51,9 @@ returns c =
           let w = worldOf fluents (a .actions) (a .start) (now (a .masks)) (now (a .log)) in
           let told : Told w _ _ n =
           record { described = c .before .before .before .before .before .before .transpose .ensures fluents (a .actions); logged = omega arith; room = s .pre .logged .short } in
+          let here : c .before .state-at .result ≡ stateAt w n = c .before .state-at .ensures fluents (a .actions) in
           asked-tries fluents (a .actions) (a .start) (now (a .masks)) (now (a .log)) x (holds (front .result)) (c .before .state-at .result) (c .doable .result)
-          (c .before .before .asks .result) (s .pre .logged .table .few) (j .onward) (c .before .state-at .ensures fluents (a .actions) ∙ state-end w) (c .doable .ensures)
+          (c .before .before .asks .result) (s .pre .logged .table .few) (j .onward) (here ∙ state-end w) (c .doable .ensures)
           (front .ensures 0) (c .before .before .asks .ensures .found w told (start-up-to n (front .ensures)) x (j .there));
     }
 
