@@ -47,17 +47,8 @@ pub fn reach(
 ) -> ReachAnswer
     ensures { λ r. ⌜ ReachAnswered r fluents actions start (masks .entry .now) (log .entry .now) (walk .entry .now) then now ⌝ }
 {
-    match check(
-        fluents,
-        actions,
-        start,
-        masks,
-        log,
-        walk,
-        Kind::Walk,
-        then,
-        now,
-    ) {
+    let kind = Kind::Walk;
+    match check(fluents, actions, start, masks, log, walk, kind, then, now) {
         Check::Refused(r) => ReachAnswer::Refused(r),
         Check::Sound => {
             let mut ends = [0u8; 256];
@@ -92,17 +83,8 @@ pub fn verdict(
 ) -> VerdictAnswer
     ensures { λ r. ⌜ VerdictAnswered r fluents actions start (masks .entry .now) (log .entry .now) (test .entry .now) then now ⌝ }
 {
-    match check(
-        fluents,
-        actions,
-        start,
-        masks,
-        log,
-        test,
-        Kind::Test,
-        then,
-        now,
-    ) {
+    let kind = Kind::Test;
+    match check(fluents, actions, start, masks, log, test, kind, then, now) {
         Check::Refused(r) => VerdictAnswer::Refused(r),
         Check::Sound => {
             let mut ends = [0u8; 256];

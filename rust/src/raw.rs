@@ -1,0 +1,78 @@
+//! The functions of include/wyndhopper.h. Nothing checks these lines against the library, so they are few and all here.
+
+extern "C" {
+    pub fn wyh_state(
+        fluents: usize,
+        actions: usize,
+        start: u32,
+        masks: *const u32,
+        masks_len: usize,
+        log: *const u8,
+        log_len: usize,
+        position: usize,
+        state: *mut u32,
+    ) -> u8;
+
+    pub fn wyh_reach(
+        fluents: usize,
+        actions: usize,
+        start: u32,
+        masks: *const u32,
+        masks_len: usize,
+        log: *const u8,
+        log_len: usize,
+        walk: *const u8,
+        walk_len: usize,
+        then: usize,
+        now: usize,
+        set: *mut u64,
+        count: *mut u32,
+        earliest: *mut u32,
+    ) -> u8;
+
+    pub fn wyh_verdict(
+        fluents: usize,
+        actions: usize,
+        start: u32,
+        masks: *const u32,
+        masks_len: usize,
+        log: *const u8,
+        log_len: usize,
+        test: *const u8,
+        test_len: usize,
+        then: usize,
+        now: usize,
+        yes: *mut u8,
+    ) -> u8;
+
+    pub fn wyh_read_rule(text: *const u8, text_len: usize, kind: u8, fluents: usize, actions: usize, rest: *mut usize) -> u8;
+
+    pub fn wyh_normal(
+        text: *const u8,
+        text_len: usize,
+        kind: u8,
+        fluents: usize,
+        actions: usize,
+        out: *mut u8,
+        room: usize,
+        count: *mut usize,
+    ) -> u8;
+
+    pub fn wyh_finish(
+        fluents: usize,
+        actions: usize,
+        start: u32,
+        masks: *const u32,
+        masks_len: usize,
+        log: *const u8,
+        log_len: usize,
+        job: *const u8,
+        job_len: usize,
+        more: usize,
+        out: *mut u8,
+        room: usize,
+        count: *mut usize,
+    ) -> u8;
+
+    pub fn wyh_answer(sheet: *const u8, sheet_len: usize, out: *mut u8) -> usize;
+}

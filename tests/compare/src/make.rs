@@ -1,0 +1,211 @@
+//! Seeded makers of inputs: valid ones, damaged ones and those at the edges of their ranges.
+
+/// A small generator of numbers (xorshift), so that a run is repeated by its seed.
+pub struct Dice(u64);
+
+impl Dice {
+    pub fn new(seed: u64) -> Self {
+        Dice(seed.wrapping_mul(0x9e37_79b9_7f4a_7c15) | 1)
+    }
+
+    pub fn next(&mut self) -> u64 {
+        self.0 ^= self.0 << 13;
+        self.0 ^= self.0 >> 7;
+        self.0 ^= self.0 << 17;
+        self.0.wrapping_mul(0x2545_f491_4f6c_dd1d) >> 16
+    }
+
+    pub fn below(&mut self, n: usize) -> usize {
+        (self.next() % n as u64) as usize
+    }
+
+    /// True once in n times.
+    pub fn once_in(&mut self, n: usize) -> bool {
+        self.below(n) == 0
+    }
+
+    pub fn pick<T: Copy>(&mut self, from: &[T]) -> T {
+        from[self.below(from.len())]
+    }
+}
+
+/// A theory and a log as a call has them, right or wrong.
+#[derive(Clone, Debug)]
+pub struct Input {
+    pub fluents: usize,
+    pub actions: usize,
+    pub start: u32,
+    pub masks: Vec<u32>,
+    pub log: Vec<u8>,
+}
+
+fn mask(d: &mut Dice, fluents: usize) -> u32 {
+    let all = if fluents >= 32 { u32::MAX } else { (1 << fluents) - 1 };
+    let m = match d.below(4) {
+        0 => 0,
+        1 => 1u32 << d.below(32),
+        2 => d.next() as u32 & d.next() as u32,
+        _ => d.next() as u32 & d.next() as u32 & d.next() as u32,
+    };
+    m & all
+}
+
+pub fn input(d: &mut Dice) -> Input {
+    let fluents = d.pick(&[0, 1, 2, 3, 5, 31, 32]);
+    let actions = d.pick(&[1, 2, 3, 4, 6, 63, 64]);
+    let mut masks: Vec<u32> = (0..4 * actions).map(|_| mask(d, fluents)).collect();
+    let start = mask(d, fluents);
+    // Needs and bans that rarely hold would leave nothing possible.
+    for a in 0..actions {
+        if !d.once_in(3) {
+            masks[4 * a] = 0;
+        }
+        if !d.once_in(4) {
+            masks[4 * a + 1] = 0;
+        }
+    }
+    let steps = d.pick(&[0, 1, 2, 3, 4, 5, 8, 13, 30, 62, 63]);
+    let log = (0..steps).map(|_| d.below(actions) as u8).collect();
+    let mut made = Input { fluents, actions, start, masks, log };
+    if d.once_in(8) {
+        damage(d, &mut made);
+    }
+    made
+}
+
+fn damage(d: &mut Dice, i: &mut Input) {
+    match d.below(9) {
+        0 => i.fluents = d.pick(&[33, 64, 65, usize::MAX]),
+        1 => i.actions = d.pick(&[0, 65, 100, usize::MAX]),
+        2 => i.masks.push(0),
+        3 => {
+            i.masks.pop();
+        }
+        4 => i.start |= 1 << d.below(32),
+        5 => {
+            let k = d.below(i.masks.len());
+            i.masks[k] |= 1 << d.below(32);
+        }
+        6 => i.log = vec![0; 63 + d.below(3)],
+        7 => i.log.push(d.next() as u8),
+        _ => i.masks.clear(),
+    }
+}
+
+fn number(d: &mut Dice, limit: usize) -> String {
+    let n = if d.once_in(40) { d.below(100) } else { d.below(limit.clamp(1, 100)) };
+    format!("{n:02}")
+}
+
+pub fn walk(d: &mut Dice, depth: usize, fluents: usize, actions: usize, job: bool) -> String {
+    let sign = if depth <= 1 { d.below(4) } else { d.below(9) };
+    let part = |d: &mut Dice| walk(d, depth - 1, fluents, actions, job);
+    match sign {
+        1 if !job || d.once_in(50) => format!("r{}", number(d, actions)),
+        2 => "n".to_string(),
+        3 if !job || d.once_in(50) => "u".to_string(),
+        4 => format!(";{}{}", part(d), part(d)),
+        5 => format!("|{}{}", part(d), part(d)),
+        6 => format!("*{}", part(d)),
+        7 => format!("?{}", test(d, depth - 1, fluents, actions)),
+        8 if !job || d.once_in(50) => format!("-{}", part(d)),
+        _ => format!("a{}", number(d, actions)),
+    }
+}
+
+pub fn test(d: &mut Dice, depth: usize, fluents: usize, actions: usize) -> String {
+    let sign = if depth <= 1 { d.below(2) } else { d.below(6) };
+    let part = |d: &mut Dice| test(d, depth - 1, fluents, actions);
+    match sign {
+        0 => "1".to_string(),
+        1 if fluents > 0 || d.once_in(20) => format!("f{}", number(d, fluents)),
+        1 => "1".to_string(),
+        2 => format!("!{}", part(d)),
+        3 => format!("&{}{}", part(d), part(d)),
+        _ => format!("<{}{}", walk(d, depth - 1, fluents, actions, false), part(d)),
+    }
+}
+
+/// A rule's text, mostly right; `kind` 0 test, 1 walk, 2 job.
+pub fn rule(d: &mut Dice, kind: u8, fluents: usize, actions: usize) -> Vec<u8> {
+    let depth = 1 + d.below(6);
+    let mut text = loop {
+        let t = if kind == 0 { test(d, depth, fluents, actions) } else { walk(d, depth, fluents, actions, kind == 2) };
+        if t.len() <= 300 {
+            break t.into_bytes();
+        }
+    };
+    if d.once_in(12) {
+        damage_text(d, &mut text);
+    }
+    text
+}
+
+fn damage_text(d: &mut Dice, text: &mut Vec<u8>) {
+    match d.below(7) {
+        0 => text.clear(),
+        1 => {
+            text.pop();
+        }
+        2 => text.push(d.pick(b"1n;a0")),
+        3 if !text.is_empty() => {
+            let k = d.below(text.len());
+            text[k] = d.next() as u8;
+        }
+        4 => {
+            let sign = d.pick(b"!*-?");
+            let more = d.pick(&[1, 20, 23, 24, 25, 254, 255]);
+            let mut deep = vec![sign; more];
+            deep.append(text);
+            *text = deep;
+        }
+        5 => *text = vec![b'!'; d.pick(&[22, 23, 24, 253, 254, 255, 256])].into_iter().chain(*b"1").collect(),
+        _ => text.insert(0, d.pick(b";|&<")),
+    }
+}
+
+/// A sheet, mostly right.
+pub fn sheet(d: &mut Dice) -> Vec<u8> {
+    let i = loop {
+        let i = input(d);
+        if i.fluents < 100 && i.actions < 100 && i.masks.len() % 4 == 0 {
+            break i;
+        }
+    };
+    let hex = |m: &u32| format!("{m:08x}");
+    let mut s = format!("sheet=1\nfluents={:02}\nactions={:02}\nstart={}\n", i.fluents, i.actions, hex(&i.start));
+    for m in i.masks.chunks(4) {
+        s += &format!("act={}\n", m.iter().map(hex).collect::<Vec<_>>().join(","));
+    }
+    s += &format!("log={}\n", i.log.iter().map(|a| format!("{a:02}")).collect::<String>());
+    let few = i.actions.min(3);
+    let mut bytes = s.into_bytes();
+    for (key, kind) in [("ask=", 0), ("run=", 2)] {
+        bytes.extend_from_slice(key.as_bytes());
+        bytes.extend(rule(d, kind, i.fluents, i.actions.max(few)));
+        bytes.push(b'\n');
+    }
+    let more = if i.actions > 4 { d.below(3) } else { d.below(7) };
+    bytes.extend_from_slice(format!("more={more}\n").as_bytes());
+    for _ in 0..d.pick(&[0, 0, 0, 1, 1, 2]) {
+        damage_sheet(d, &mut bytes);
+    }
+    bytes
+}
+
+fn damage_sheet(d: &mut Dice, s: &mut Vec<u8>) {
+    if s.is_empty() {
+        return;
+    }
+    let k = d.below(s.len());
+    match d.below(6) {
+        0 => s[k] = d.next() as u8,
+        1 => {
+            s.remove(k);
+        }
+        2 => s.insert(k, d.pick(b"\n0f=,")),
+        3 => s.truncate(k),
+        4 => s.extend_from_slice(b"more=1\n"),
+        _ => s.resize(d.pick(&[3262, 3263, 3264, 5000]), b'0'),
+    }
+}
