@@ -22,7 +22,8 @@ use Rattle.theory.proofs.Reading.{Checked}
 use Rattle.rule.specs.Outcome.{With, Spelled, ruleRows, Fitting}
 use Rattle.rule.specs.declared.Facts.{Facts}
 use Rattle.finish.specs.Sound.{JobIs, Wanted}
-use Rattle.finish.specs.Answer.{numberGiven, countGiven, Sought, SoughtTold, FinishAnswered}
+use Rattle.finish.specs.Answer.{numberGiven, countGiven, FinishAnswered}
+use Rattle.finish.specs.Found.{Sought, SoughtTold}
 use Rattle.finish.specs.declared.FinishAnswer.{FinishAnswer}
 use Rattle.finish.specs.declared.FinishAnswer.the-variants.{Refused, Written}
 use Rattle.finish.specs.Rows.{NoFinish, jobRows, ownRows, finishRows}

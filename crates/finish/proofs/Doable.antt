@@ -38,7 +38,12 @@ module _ (masks : List ℕ) (state : ℕ) where
   -- action a is taken in
   pub doable-taken : (a asked : ℕ) → a < actionLimit → Possible (tableMasks masks a) state → Doable a masks state asked
       → Doable (a + 1) masks state (bitOr asked (1 * 2 ^ a % 2 ^ actionLimit))
-  doable-taken a asked few able d = record { each = λ b. (λ h. out b (or-iff (on asked b) (eqb b a) .0 (sym (bit b) ∙ h)), λ h. bit b ∙ or-iff (on asked b) (eqb b a) .1 (into b h)) }
+  doable-taken a asked few able d = record {
+    each = λ b. (
+      λ h. out b (or-iff (on asked b) (eqb b a) .0 (sym (bit b) ∙ h)),
+      λ h. bit b ∙ or-iff (on asked b) (eqb b a) .1 (into b h),
+    );
+  }
     where
       bit : (b : ℕ) → on (bitOr asked (1 * 2 ^ a % 2 ^ actionLimit)) b ≡ (on asked b || eqb b a)
       bit b = rw (on-or, on-one-shl a actionLimit b few)

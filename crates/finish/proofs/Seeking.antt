@@ -11,8 +11,7 @@ use Rattle.meaning.specs.Finish.{First, None}
 use Rattle.theory.specs.World.{worldOf}
 use Rattle.rule.specs.Standing.{Ends}
 use Rattle.finish.specs.Sound.{Ready, Wanted}
-use Rattle.finish.specs.Found.{FinishTold}
-use Rattle.finish.specs.Answer.{SoughtTold}
+use Rattle.finish.specs.Found.{FinishTold, SoughtTold}
 use Rattle.finish.specs.declared.search.Found.the-variants.{At, Nothing}
 use Rattle.finish.specs.declared.FinishAnswer.the-variants.{Refused, Written}
 

@@ -8,11 +8,10 @@ use lib.ListN.{length, drop}
 use Rattle.refusal.specs.Number.{numberOf}
 use Rattle.meaning.specs.Theory.{World}
 use Rattle.meaning.specs.Rule.{Walk, ofWalk, jobKind, Opens}
-use Rattle.meaning.specs.Finish.{First, None}
+use Rattle.meaning.specs.Finish.{First}
 use Rattle.meaning.specs.Refusal.{Accepted, noCount}
 use Rattle.meaning.specs.Refusal.{Refused as RefusedBy}
 use Rattle.theory.specs.World.{worldOf}
-use Rattle.finish.specs.Sound.{JobIs}
 use Rattle.finish.specs.Rows.{finishRows}
 use Rattle.finish.specs.declared.FinishAnswer.{FinishAnswer}
 use Rattle.finish.specs.declared.FinishAnswer.the-variants.{Refused, Written}
@@ -33,14 +32,6 @@ pub record Finished (w : World) (job : Walk) (more : ℕ) (before after : List �
   pub first : First w job more ending
   pub counted : count ≡ length ending
   pub written : after ≡ ending ++ drop (length ending) before
-
--- what the search alone answers, once nothing but 11 is left to refuse
-abbrev pub Sought : FinishAnswer → World → Walk → ℕ → List ℕ → List ℕ → Type 0
-Sought (Refused r) w job more before after = (numberOf r ≡ 11) × None w job more × (after ≡ before)
-Sought (Written n) w job more before after = Finished w job more before after n
-
-pub record SoughtTold (actions start : ℕ) (masks log job : List ℕ) (more : ℕ) (before after : List ℕ) (answer : FinishAnswer) : Type 0 where
-  pub each : (fluents : ℕ) (x : Walk) → JobIs job x → Sought answer (worldOf fluents actions start masks log) x more before after
 
 -- an acceptance, and a refusal, which "changes no lent byte"
 pub record Accepts (fluents actions start : ℕ) (masks log job : List ℕ) (more : ℕ) (before after : List ℕ) (number count : ℕ) : Type 0 where

@@ -5,6 +5,7 @@ use mathlib.Core.Bool.{Bool, true, false}
 use mathlib.Core.List.{List}
 use Prim.Native.Nat.{ℕ, _+_, _≤_, _<_}
 use lib.ListN.{drop, take}
+use Rattle.refusal.specs.Number.{numberOf}
 use Rattle.laws.specs.Bit.{on}
 use Rattle.meaning.specs.Limits.{actionLimit, logLimit}
 use Rattle.meaning.specs.Theory.{World, Possible}
@@ -17,6 +18,9 @@ use Rattle.rule.specs.Standing.{Stands}
 use Rattle.ask.specs.Found.{Told}
 use Rattle.finish.specs.Search.{Ended, FirstOf, NoneOf, Tries}
 use Rattle.finish.specs.Sound.{JobIs}
+use Rattle.finish.specs.Answer.{Finished}
+use Rattle.finish.specs.declared.FinishAnswer.{FinishAnswer}
+use Rattle.finish.specs.declared.FinishAnswer.the-variants.{Refused, Written}
 use Rattle.finish.specs.declared.search.Found.{Found}
 use Rattle.finish.specs.declared.search.Found.the-variants.{At, Nothing}
 
@@ -65,3 +69,11 @@ pub record FinishTold (actions start : ℕ) (masks job trail : List ℕ) (n more
   pub fits : Within answer n more
   pub each : (fluents : ℕ) (x : Walk) → JobIs job x
       → AllLengths answer more (worldOf fluents actions start masks (take n trail)) x (drop n last)
+
+-- what the search alone answers, once nothing but 11 is left to refuse
+abbrev pub Sought : FinishAnswer → World → Walk → ℕ → List ℕ → List ℕ → Type 0
+Sought (Refused r) w job more before after = (numberOf r ≡ 11) × None w job more × (after ≡ before)
+Sought (Written n) w job more before after = Finished w job more before after n
+
+pub record SoughtTold (actions start : ℕ) (masks log job : List ℕ) (more : ℕ) (before after : List ℕ) (answer : FinishAnswer) : Type 0 where
+  pub each : (fluents : ℕ) (x : Walk) → JobIs job x → Sought answer (worldOf fluents actions start masks log) x more before after

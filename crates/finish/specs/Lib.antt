@@ -1,5 +1,5 @@
+pub mod Rows
+pub mod Answer
 pub mod Search
 pub mod Sound
 pub mod Found
-pub mod Rows
-pub mod Answer

@@ -1,7 +1,8 @@
 // The search for the sequence that finishes a job: shorter before longer, then smaller action numbers first. Knows the theory, the log and the job's text.
 ghost use lib.ListN.{length};
 ghost use Rattle.finish.specs.Sound.{Wanted};
-ghost use Rattle.finish.specs.Answer.{numberGiven, countGiven, SoughtTold, FinishAnswered};
+ghost use Rattle.finish.specs.Answer.{numberGiven, countGiven, FinishAnswered};
+ghost use Rattle.finish.specs.Found.{SoughtTold};
 
 mod asks; // asks.rt: the actions that the job asks for next
 mod search; // search.rt: the search itself

@@ -54,6 +54,9 @@ fn labels() {
         b";a00;a01;a02;a00a01",
         2,
     );
+}
+
+fn lengths() {
     io::write_all(1, b"finished already\n");
     run(2, 3, 0, &LABELS, b"\x00\x01", b";a00a01", 6);
     io::write_all(1, b"six actions, and a bound of five\n");
@@ -70,6 +73,10 @@ fn listed() {
     run(4, 7, 8, &COFFEE, b"\x00\x03\x01\x04", deliver, 6);
     run(4, 7, 8, &COFFEE, b"\x00\x03\x01\x04\x02\x05", deliver, 6);
     run(4, 7, 8, &COFFEE, b"\x00\x03\x02\x05", deliver, 6);
+}
+
+fn not_listed() {
+    let deliver = b"*|;?!<-;a03*n1;a00a03|;?!<-;a04*n1;a01a04;?!<-;a05*n1;a02a05";
     io::write_all(1, b"coffee: on the way, twice, and not there\n");
     run(4, 7, 8, &COFFEE, b"\x01", deliver, 6);
     run(4, 7, 8, &COFFEE, b"\x00\x03\x01\x04\x00\x03", deliver, 6);
@@ -119,22 +126,30 @@ fn limits() {
     run(2, 3, 0, &LABELS, &long, b"*n", 6);
 }
 
-fn refusals() {
-    let masks = [0u32; 4];
-    let mut short = [b'.'; 5];
-    io::write_all(1, b"refusals 3 to 9, and 12 before 11\n");
+fn bad_world() {
+    io::write_all(1, b"refusals 3, 4 and 5\n");
     run(2, 3, 0, &LABELS, b"", b"n", 7);
     run(33, 3, 0, &LABELS, b"", b"n", 6);
     run(2, 0, 0, &LABELS, b"", b"n", 6);
     run(2, 2, 0, &LABELS, b"", b"n", 6);
     run(2, 3, 4, &LABELS, b"", b"n", 6);
     run(2, 3, 0, &LABELS, b"\x03", b"n", 6);
+}
+
+fn bad_job() {
+    let masks = [0u32; 4];
+    io::write_all(1, b"refusals 6 to 9\n");
     run(2, 3, 0, &LABELS, b"", b"", 6);
     run(2, 3, 0, &LABELS, b"", b"nn", 6);
     run(2, 3, 0, &LABELS, b"", b"a03", 6);
     run(0, 1, 0, &masks, b"", b"?f00", 6);
     run(2, 3, 0, &LABELS, b"", b"************************n", 6);
     run(2, 3, 0, &LABELS, b"", b"u", 6);
+}
+
+fn short_output() {
+    let mut short = [b'.'; 5];
+    io::write_all(1, b"12 before 11\n");
     run_into(2, 3, 0, &LABELS, b"\x01", b";a00a01", 6, &mut short);
     run_into(2, 3, 0, &LABELS, b"\x01", b";a00a01", 5, &mut short);
     run_into(2, 3, 0, &LABELS, b"", b";a00a01", 5, &mut short);
@@ -142,8 +157,12 @@ fn refusals() {
 
 fn main() {
     labels();
+    lengths();
     listed();
+    not_listed();
     every_office();
     limits();
-    refusals();
+    bad_world();
+    bad_job();
+    short_output();
 }

@@ -2,6 +2,7 @@
 // length in C; a number beside the refusal is a lent slot, which is always written. Nothing is kept between calls.
 ghost use Rattle.theory.specs.Answer.{StateAnswered};
 ghost use Rattle.finish.specs.Answer.{FinishAnswered};
+ghost use Rattle.answer.specs.Told.{Told};
 ghost use Rattle.wyndhopper.specs.Exported.{ReachExported, VerdictExported, RestExported, NormalExported};
 
 mod kinds; // kinds.rt: a kind as a number
@@ -158,4 +159,12 @@ pub extern "C" fn wyh_normal(
     ensures { λ r. ⌜ NormalExported kind (now (text .entry)) fluents actions (now (out .entry)) r (now (count .exit)) (now (out .exit)) ⌝ }
 {
     kinds::normal(text, kind, fluents, actions, out, count)
+}
+
+// What the program jobsheet prints for a sheet, at the front of the output.
+#[no_mangle]
+pub extern "C" fn wyh_answer(sheet: &[u8], out: &mut [u8; 64]) -> usize
+    ensures { λ r. ⌜ Told (now (sheet .entry)) (now (out .entry)) (now (out .exit)) r ⌝ }
+{
+    answer::answer(sheet, out)
 }

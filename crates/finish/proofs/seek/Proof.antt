@@ -4,6 +4,8 @@ use Prim.Native.Nat.{_+_, _-_}
 use native.Mathlib.Omega.{arith}
 use denote.Ref.{now}
 use lib.ListN.{length, take, drop, length-take, length-drop}
+use Rattle.meaning.specs.Limits.{places}
+use Rattle.finish.specs.declared.search.Found.{Found}
 use Rattle.finish.specs.declared.search.Found.the-variants.{At}
 use Rattle.finish.specs.Found.{FinishTold}
 use Rattle.finish.proofs.Seeking.{copied, ready-first, nothing-sought, written-sought}
@@ -26,17 +28,26 @@ slice-aggregate-first c = sym (c .before .before .before .before .mark .ensures 
 slice-aggregate-first-2 : tie.Need-slice-aggregate-first-2
 slice-aggregate-first-2 c = search needs
 
+-- the places that the answers look back to: where the log is copied, and the start
+abbrev copying : tie.After-first → tie.After-copy
+copying c = c .before .before .before .before
+
+abbrev start : tie.After-copy → tie.Start
+start c = c .before .before .before .before .before .before .before .before
+
 -- the trail's first places hold the log
-front : (c : tie.After-copy) → take (c .copy .result) (c .copy .last .1 .0) ≡ now (c .before .before .before .before .before .before .before .before .args .log)
-front c = copied (now (c .before .before .before .before .before .before .before .before .args .log)) _ (c .copy .last .1 .0) (c .copy .result) (c .copy .ensures .0) (c .copy .ensures .1)
+front : (c : tie.After-copy) → take (c .copy .result) (c .copy .last .1 .0) ≡ now (start c .args .log)
+front c = copied (now (start c .args .log)) _ (c .copy .last .1 .0) (c .copy .result) (c .copy .ensures .0) (c .copy .ensures .1)
 
 first-requires : tie.Need-first-requires
 first-requires c κs =
-    let s = c .before .before .before .before .before .before .before .before .before .before .before in
+    let p = c .before .before .before in
+    let s = start p in
     let a = s .args in
-    let copy = c .before .before .before .copy in
-    ready-first (a .actions) (now (a .masks)) (now (a .log)) (now (a .job)) (c .before .before .before .before .before .mark .last .1 .0) (copy .last .1 .0) (a .more) (length (now (a .out)))
-    (copy .result) (s .pre) (c .before .before .before .before .before .mark .ensures .1) (copy .kept .1 .0) (copy .ensures .0) (front (c .before .before .before))
+    let copy = p .copy in
+    let mark = p .before .before .mark in
+    ready-first (a .actions) (now (a .masks)) (now (a .log)) (now (a .job)) (mark .last .1 .0) (copy .last .1 .0) (a .more) (length (now (a .out)))
+    (copy .result) (s .pre) (mark .ensures .1) (copy .kept .1 .0) (copy .ensures .0) (front p)
 
 enum-told : tie.Need-enum-told
 enum-told c = search needs
@@ -44,16 +55,19 @@ enum-told c = search needs
 enum-known-k : tie.Need-enum-known-k
 enum-known-k c = search needs
 
--- the search found a sequence of k actions
-found : (c : tie.After-known-told)
-    → let a = c .before .before .before .before .before .before .before .before .before .before .before .before .before .before .before .before .args in
-    FinishTold (a .actions) (a .start) (now (a .masks)) (now (a .job)) (c .before .before .before .before .before .before .before .before .copy .last .1 .0) (c .before .before .before .before .before .before .before .before .copy .result) (a .more) (c .before .before .before .before .first .last .1 .1 .1 .1 .1 .0)
-    (At (c .before .k .given .0 .0))
-found c =
-    let a = c .before .before .before .before .before .before .before .before .before .before .before .before .before .before .before .before .args in
-    subst
-    (FinishTold (a .actions) (a .start) (now (a .masks)) (now (a .job)) (c .before .before .before .before .before .before .before .before .copy .last .1 .0) (c .before .before .before .before .before .before .before .before .copy .result) (a .more) (c .before .before .before .before .first .last .1 .1 .1 .1 .1 .0))
-    (c .before .k .given .1) (c .before .before .before .before .first .ensures)
+-- what the search says of its answer, and that it found a sequence of k actions
+abbrev Told : tie.After-first → Found → Type 0
+Told c =
+    let p = copying c in
+    let a = start p .args in
+    FinishTold (a .actions) (a .start) (now (a .masks)) (now (a .job)) (p .copy .last .1 .0) (p .copy .result) (a .more) (c .first .last .1 .1 .1 .1 .1 .0)
+
+found : (c : tie.After-known-told) → Told (c .before .before .before .before) (At (c .before .k .given .0 .0))
+found c = subst (Told (c .before .before .before .before)) (c .before .k .given .1) (c .before .before .before .before .first .ensures)
+
+-- the trail keeps its places
+long : (c : tie.After-first) → length (c .first .last .1 .1 .1 .1 .1 .0) ≡ places
+long c = c .first .kept .1 .1 .1 .1 .1 .0 ∙ copying c .copy .kept .1 .0
 
 add-end : tie.Need-add-end
 add-end c = omega (arith, found c .fits .1)
@@ -65,34 +79,37 @@ part-copy-start : tie.Need-part-copy-start
 part-copy-start c = search needs
 
 part-copy-end : tie.Need-part-copy-end
-part-copy-end c = omega (arith, found (c .before) .fits .1, c .before .before .before .before .before .first .kept .1 .1 .1 .1 .1 .0, c .before .before .before .before .before .before .before .before .before .copy .kept .1 .0)
+part-copy-end c = omega (arith, found (c .before) .fits .1, long (c .before .before .before .before .before))
 
 copy-requires-2 : tie.Need-copy-requires-2
-copy-requires-2 c κs = simp (length-take, length-drop) (omega (arith, found (c .before .before .before) .fits .0, c .before .before .before .before .before .before .before .before .before .before .before .before .before .before .before .before .before .before .before .pre .enough))
+copy-requires-2 c κs =
+    let k = c .before .before .before in
+    let s = start (copying (k .before .before .before .before)) in
+    simp (length-take, length-drop) (omega (arith, found k .fits .0, s .pre .enough))
 
 returns : tie.Need-returns
 returns c =
-    let s = c .before .before .before .before .before .before .before .before .before .before .before .before .before .before .before in
-    let a = s .args in
-    let trail = c .before .before .before .before .before .before .before .copy .last .1 .0 in
-    let last = c .before .before .before .first .last .1 .1 .1 .1 .1 .0 in
-    nothing-sought (a .actions) (a .start) (now (a .masks)) (now (a .log)) (now (a .job)) trail last (c .before .before .before .before .before .before .before .copy .result) (a .more) (front (c .before .before .before .before .before .before .before)) (now (a .out))
-    (subst (FinishTold (a .actions) (a .start) (now (a .masks)) (now (a .job)) trail (c .before .before .before .before .before .before .before .copy .result) (a .more) last) (c .enum-told .given .1) (c .before .before .before .first .ensures))
+    let f = c .before .before .before in
+    let p = copying f in
+    let a = start p .args in
+    nothing-sought (a .actions) (a .start) (now (a .masks)) (now (a .log)) (now (a .job)) (p .copy .last .1 .0) (f .first .last .1 .1 .1 .1 .1 .0)
+    (p .copy .result) (a .more) (front p) (now (a .out)) (subst (Told f) (c .enum-told .given .1) (f .first .ensures))
 
 same-length : tie.Need-same-length
 same-length c = search needs
 
 returns-2 : tie.Need-returns-2
 returns-2 c =
-    let s = c .before .before .before .before .before .before .before .before .before .before .before .before .before .before .before .before .before .before .before .before .before .before in
-    let a = s .args in
-    let n = c .before .before .before .before .before .before .before .before .before .before .before .before .before .before .copy .result in
-    let k = c .before .before .before .before .before .before .before .k .given .0 .0 in
-    let last = c .before .before .before .before .before .before .before .before .before .before .first .last .1 .1 .1 .1 .1 .0 in
+    let known = c .before .before .before .before .before .before in
+    let f = known .before .before .before .before in
+    let p = copying f in
+    let a = start p .args in
+    let n = p .copy .result in
+    let k = known .before .k .given .0 .0 in
+    let last = f .first .last .1 .1 .1 .1 .1 .0 in
     let back : n + k - n ≡ k = omega arith in
-    written-sought (a .actions) (a .start) (now (a .masks)) (now (a .log)) (now (a .job)) (c .before .before .before .before .before .before .before .before .before .before .before .before .before .before .copy .last .1 .0) last n (a .more) (front (c .before .before .before .before .before .before .before .before .before .before .before .before .before .before)) (now (a .out))
-    k (take (n + k - n) (drop n last)) (c .before .before .copy2 .last .1 .0) (c .before .before .before .before .before .before .before .before .before .before .first .kept .1 .1 .1 .1 .1 .0 ∙ c .before .before .before .before .before .before .before .before .before .before .before .before .before .before .copy .kept .1 .0) (rw back)
-    (c .before .before .copy2 .ensures .1) (found (c .before .before .before .before .before .before))
+    written-sought (a .actions) (a .start) (now (a .masks)) (now (a .log)) (now (a .job)) (p .copy .last .1 .0) last n (a .more) (front p) (now (a .out))
+    k (take (n + k - n) (drop n last)) (c .before .before .copy2 .last .1 .0) (long f) (rw back) (c .before .before .copy2 .ensures .1) (found known)
 
 pub seek-spec : {M : Type 1} → statement M
 seek-spec =

@@ -72,7 +72,9 @@ walk-requires : (t : ℕ) → lts.Need-walk-requires (calls t) (given t) reads.P
 walk-requires t c κs = seq-first (c .before .before .before .before .before .before .before .pre .1) (c .before .match .keys3)
 
 asks-requires : (t : ℕ) → lts.Need-asks-requires (calls t) (given t) reads.Post
-asks-requires t c κs = let s = c .before .before .before .before .before .before .before .before in (omega (arith, within (s .pre .1 .stands)), seq-first (s .pre .1) (c .before .before .match .keys3))
+asks-requires t c κs =
+    let s = c .before .before .before .before .before .before .before .before in
+    (omega (arith, within (s .pre .1 .stands)), seq-first (s .pre .1) (c .before .before .match .keys3))
 
 asks-requires-2 : (t : ℕ) → lts.Need-asks-requires-2 (calls t) (given t) reads.Post
 asks-requires-2 t c κs =
@@ -84,7 +86,9 @@ second-requires-2 : (t : ℕ) → lts.Need-second-requires-2 (calls t) (given t)
 second-requires-2 t c κs = alt-second (c .before .before .before .before .before .before .pre .1) (c .match .keys4) .inside
 
 asks-requires-3 : (t : ℕ) → lts.Need-asks-requires-3 (calls t) (given t) reads.Post
-asks-requires-3 t c κs = let s = c .before .before .before .before .before .before .before in (omega (arith, within (s .pre .1 .stands)), alt-first (s .pre .1) (c .before .match .keys4))
+asks-requires-3 t c κs =
+    let s = c .before .before .before .before .before .before .before in
+    (omega (arith, within (s .pre .1 .stands)), alt-first (s .pre .1) (c .before .match .keys4))
 
 asks-requires-4 : (t : ℕ) → lts.Need-asks-requires-4 (calls t) (given t) reads.Post
 asks-requires-4 t c κs =
@@ -96,7 +100,9 @@ walk-requires-2 : (t : ℕ) → lts.Need-walk-requires-2 (calls t) (given t) rea
 walk-requires-2 t c κs = c .before .before .before .before .before .before .pre .1
 
 asks-requires-5 : (t : ℕ) → lts.Need-asks-requires-5 (calls t) (given t) reads.Post
-asks-requires-5 t c κs = let s = c .before .before .before .before .before .before .before in (omega (arith, within (s .pre .1 .stands)), star-part (s .pre .1) (c .before .match .keys5))
+asks-requires-5 t c κs =
+    let s = c .before .before .before .before .before .before .before in
+    (omega (arith, within (s .pre .1 .stands)), star-part (s .pre .1) (c .before .match .keys5))
 
 returns : (t : ℕ) → lts.Need-returns (calls t) (given t) reads.Post
 returns t c =
@@ -109,10 +115,13 @@ returns-2 t c = next-found (c .before .match .keys2) (c .waits2 .ensures)
 returns-3 : (t : ℕ) → lts.Need-returns-3 (calls t) (given t) reads.Post
 returns-3 t c =
     let s = c .before .before .before .before .before .before .before .before .before .before in
-    seq-found (s .pre .1 .marked) (c .before .before .before .second .ensures) (c .before .before .before .before .match .keys3) (c .before .asks .ensures) (c .before .before .walk .ensures) (c .asks2 .ensures)
+    seq-found (s .pre .1 .marked) (c .before .before .before .second .ensures) (c .before .before .before .before .match .keys3)
+    (c .before .asks .ensures) (c .before .before .walk .ensures) (c .asks2 .ensures)
 
 returns-4 : (t : ℕ) → lts.Need-returns-4 (calls t) (given t) reads.Post
-returns-4 t c = alt-found (c .before .before .before .before .before .before .before .before .before .pre .1 .marked) (c .before .before .second2 .ensures) (c .before .before .before .match .keys4) (c .before .asks3 .ensures) (c .asks4 .ensures)
+returns-4 t c =
+    let s = c .before .before .before .before .before .before .before .before .before in
+    alt-found (s .pre .1 .marked) (c .before .before .second2 .ensures) (c .before .before .before .match .keys4) (c .before .asks3 .ensures) (c .asks4 .ensures)
 
 returns-5 : (t : ℕ) → lts.Need-returns-5 (calls t) (given t) reads.Post
 returns-5 t c = star-found (c .before .before .match .keys5) (c .before .walk2 .ensures) (c .asks5 .ensures)

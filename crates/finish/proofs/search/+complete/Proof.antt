@@ -109,7 +109,8 @@ returns-2 t c =
     let k = c .before .before .before .before .before .before .before .loop in
     let call = c .before .before .before .complete in
     let asked = c .before .before .before .before .before .before .before .before .tries in
-    tried-told (a .actions) (a .start) (now (a .masks)) (now (a .job)) (now (a .trail)) (k .trail) (call .last .1 .1 .1 .1 .1 .0) (a .n) (a .left) (a .left - 1) (k .a) (asked .result)
+    tried-told (a .actions) (a .start) (now (a .masks)) (now (a .job)) (now (a .trail)) (k .trail) (call .last .1 .1 .1 .1 .1 .0) (a .n) (a .left)
+    (a .left - 1) (k .a) (asked .result)
     (omega (arith, c .before .before .before .before .before .before .before .before .before .before .if1 .left))
     (place (a .actions) (now (a .masks)) (now (a .job)) (now (a .ends)) (now (a .trail)) (k .trail) (a .n) (a .left) (s .pre .1) (k .inv .1))
     (call .kept .1 .1 .1 .1 .1 .0 ∙ length-set (k .trail) (a .n) (k .a))
@@ -126,7 +127,8 @@ loop-less : (t : ℕ) → lts.Need-loop-less (calls t) (given t) reads.Post Inv 
 loop-less t c = omega arith
 
 -- the place behind the log, as the loop has it
-behind : (t : ℕ) (c : lts.At-loop (calls t) (given t) reads.Post Inv μ-loop) → c .before .before .before .before .before .before .before .before .args .n < length (c .loop .trail)
+behind : (t : ℕ) (c : lts.At-loop (calls t) (given t) reads.Post Inv μ-loop)
+    → c .before .before .before .before .before .before .before .before .args .n < length (c .loop .trail)
 behind t c =
     let s = c .before .before .before .before .before .before .before .before in
     let a = s .args in

@@ -36,12 +36,14 @@ returns c =
     let s = c .before .before .before .before .before .before .before .before .before .before .before .before in
     let a = s .args in
     let n = length (now (a .log)) in
+    let front = c .before .before .before .before .at .ensures in
     record {
       each = λ fluents actions x j.
           let w = worldOf fluents actions (a .start) (now (a .masks)) (now (a .log)) in
-          let told : Told w _ _ n = record { described = c .before .before .before .before .before .transpose .ensures fluents actions; logged = omega arith; room = s .pre .logged .short } in
+          let described = c .before .before .before .before .before .transpose .ensures fluents actions in
+          let told : Told w _ _ n = record { described = described; logged = omega arith; room = s .pre .logged .short } in
           rw (c .has .ensures)
-          (ended-iff w x n _ _ (c .before .before .before .before .at .ensures) (c .before .walk .ensures .found w told (start-up-to n (c .before .before .before .before .at .ensures)) x (j .there)));
+          (ended-iff w x n _ _ front (c .before .walk .ensures .found w told (start-up-to n front) x (j .there)));
     }
 
 pub finished-spec : {M : Type 1} → statement M

@@ -37,7 +37,8 @@ returns c =
     let a = c .before .before .before .before .before .before .before .before .before .before .before .before .args in
     let k = c .before .before .before .before .before .before .loop in
     let call = c .before .before .before .complete in
-    at-told (a .actions) (a .start) (now (a .masks)) (now (a .job)) (now (a .trail)) (k .trail) (call .last .1 .1 .1 .1 .1 .0) (a .n) (a .more) (k .k) (omega arith) (omega arith) (omega arith)
+    at-told (a .actions) (a .start) (now (a .masks)) (now (a .job)) (now (a .trail)) (k .trail) (call .last .1 .1 .1 .1 .1 .0) (a .n) (a .more) (k .k)
+    (omega arith) (omega arith) (omega arith)
     (k .inv .2) (k .inv .3) (rw (c .if1 .taken) at (call .ensures))
 
 add-k : tie.Need-add-k Inv-loop μ-loop

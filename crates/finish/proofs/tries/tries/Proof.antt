@@ -49,8 +49,8 @@ returns c =
     record {
       each = λ fluents x j.
           let w = worldOf fluents (a .actions) (a .start) (now (a .masks)) (now (a .log)) in
-          let told : Told w _ _ n =
-          record { described = c .before .before .before .before .before .before .transpose .ensures fluents (a .actions); logged = omega arith; room = s .pre .logged .short } in
+          let described = c .before .before .before .before .before .before .transpose .ensures fluents (a .actions) in
+          let told : Told w _ _ n = record { described = described; logged = omega arith; room = s .pre .logged .short } in
           let here : c .before .state-at .result ≡ stateAt w n = c .before .state-at .ensures fluents (a .actions) in
           asked-tries fluents (a .actions) (a .start) (now (a .masks)) (now (a .log)) x (holds (front .result)) (c .before .state-at .result) (c .doable .result)
           (c .before .before .asks .result) (s .pre .logged .table .few) (j .onward) (here ∙ state-end w) (c .doable .ensures)

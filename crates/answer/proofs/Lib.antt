@@ -1,0 +1,9 @@
+pub mod Writing
+pub mod Digits
+pub mod Lengths
+pub mod Places
+pub mod Asking
+pub mod Calls
+pub mod Handing
+pub mod Determined
+pub mod Front

@@ -1,0 +1,47 @@
+-- `cases::lines::next_row` meets its contract: it goes onward, and stays within the table.
+use Prim.Native.Nat.{_≤_, _-_}
+use lib.ListN.{length}
+use borrow.Author.Needs.{needs}
+use Rattle.cases.proofs.lines.next_row.Statement.{statement}
+use Rattle.cases.proofs.lines.next_row.Tie as tie
+
+abbrev Inv-loop : tie.InvT-loop
+Inv-loop table from at₀ at = (from ≤ at) × (at ≤ length table)
+
+abbrev μ-loop : tie.MeasureT-loop
+μ-loop table from at₀ at = length table - at
+
+loop-holds : tie.Need-loop-holds Inv-loop μ-loop
+loop-holds c = search needs
+
+shared-slice-read-if1 : tie.Need-shared-slice-read-if1 Inv-loop μ-loop
+shared-slice-read-if1 c = search needs
+
+returns : tie.Need-returns Inv-loop μ-loop
+returns c = search needs
+
+next-line-requires : tie.Need-next-line-requires Inv-loop μ-loop
+next-line-requires c κs = search needs
+
+loop-less : tie.Need-loop-less Inv-loop μ-loop
+loop-less c = search needs
+
+loop-again : tie.Need-loop-again Inv-loop μ-loop
+loop-again c = search needs
+
+returns-2 : tie.Need-returns-2 Inv-loop μ-loop
+returns-2 c = search needs
+
+pub next-row-spec : {M : Type 1} → statement M
+next-row-spec =
+    tie.close
+    (tie.spec
+    Inv-loop
+    μ-loop
+    loop-holds
+    shared-slice-read-if1
+    returns
+    next-line-requires
+    loop-less
+    loop-again
+    returns-2)
