@@ -81,6 +81,16 @@ fn finishes(d: &mut Dice, i: &Input) {
     same("finish", &(i, &text, more, room), (ours, out), written(room, &plain));
 }
 
+fn sheets(d: &mut Dice) {
+    let sheet = make::sheet(d);
+    let mut out = [0; wyndhopper::ANSWER_ROOM];
+    out.copy_from_slice(&pattern(wyndhopper::ANSWER_ROOM));
+    let count = wyndhopper::answer(&sheet, &mut out);
+    let plain = Ok(oracle::sheet::answer(&sheet).into_bytes());
+    let text = String::from_utf8_lossy(&sheet).into_owned();
+    same("answer", &text, (Ok(count), out.to_vec()), written(wyndhopper::ANSWER_ROOM, &plain));
+}
+
 /// Three laws, from outside: the converse's pairs, the normal form's pairs, and that its form is its own normal form.
 fn laws(d: &mut Dice, i: &Input) {
     let mut walk = make::rule(d, 1, i.fluents, i.actions);
@@ -116,7 +126,7 @@ fn main() {
         questions(&mut d, &i);
         texts(&mut d, &i);
         finishes(&mut d, &i);
-        let _ = make::sheet(&mut d);
+        sheets(&mut d);
         if k % 16 == 0 {
             laws(&mut d, &i);
         }
