@@ -21,7 +21,7 @@ use Rattle.theory.specs.Rows.{stateRows}
 use Rattle.theory.specs.Answer.{numberGiven, stateGiven, StateAnswered}
 use Rattle.theory.specs.declared.StateAnswer.{StateAnswer}
 use Rattle.theory.specs.declared.StateAnswer.the-variants.{Refused, State}
-use Rattle.theory.proofs.Numbers.{some-number}
+use Rattle.refusal.proofs.Numbers.{some-number}
 use Rattle.ask.specs.Rows.{askRows}
 use Rattle.ask.specs.Answer.{verdictNumber, verdictGiven, Verdict, VerdictAnswered}
 use Rattle.ask.specs.declared.VerdictAnswer.{VerdictAnswer}

@@ -10,7 +10,7 @@ ghost use Rattle.answer.specs.Wrote.{Wrote};
 use crate::put;
 
 // The verdict.
-pub fn verdict(out: &mut [u8], to: usize, yes: bool) -> usize
+pub(crate) fn verdict(out: &mut [u8], to: usize, yes: bool) -> usize
     requires { ⌜ to + 12 ≤ length (now out) ⌝ }
     ensures { λ r. ⌜ Wrote (now (out .entry)) to (line "verdict=" (yesNo yes)) (now (out .exit)) r ⌝ }
 {
@@ -24,7 +24,7 @@ pub fn verdict(out: &mut [u8], to: usize, yes: bool) -> usize
 }
 
 // The last state.
-pub fn state(out: &mut [u8], to: usize, word: u32) -> usize
+pub(crate) fn state(out: &mut [u8], to: usize, word: u32) -> usize
     requires { ⌜ to + 15 ≤ length (now out) ⌝ }
     ensures { λ r. ⌜ Wrote (now (out .entry)) to (line "state=" (hex8 word)) (now (out .exit)) r ⌝ }
 {
@@ -34,7 +34,7 @@ pub fn state(out: &mut [u8], to: usize, word: u32) -> usize
 }
 
 // The sequence that finishes the job.
-pub fn finish(out: &mut [u8], to: usize, ending: &[u8]) -> usize
+pub(crate) fn finish(out: &mut [u8], to: usize, ending: &[u8]) -> usize
     requires { ⌜ to + 2 * length (now ending) + 8 ≤ length (now out) ⌝ }
     ensures { λ r. ⌜ Wrote (now (out .entry)) to (line "finish=" (finishText (some (now (ending .entry))))) (now (out .exit)) r ⌝ }
 {
@@ -44,7 +44,7 @@ pub fn finish(out: &mut [u8], to: usize, ending: &[u8]) -> usize
 }
 
 // That no sequence finishes the job.
-pub fn no_finish(out: &mut [u8], to: usize) -> usize
+pub(crate) fn no_finish(out: &mut [u8], to: usize) -> usize
     requires { ⌜ to + 12 ≤ length (now out) ⌝ }
     ensures { λ r. ⌜ Wrote (now (out .entry)) to (line "finish=" (finishText none)) (now (out .exit)) r ⌝ }
 {
@@ -54,7 +54,7 @@ pub fn no_finish(out: &mut [u8], to: usize) -> usize
 }
 
 // A refusal with its place.
-pub fn refusal(out: &mut [u8], number: u32, place: u32) -> usize
+pub(crate) fn refusal(out: &mut [u8], number: u32, place: u32) -> usize
     requires { ⌜ (number < 1000) × (place < 1000) × (21 ≤ length (now out)) ⌝ }
     ensures { λ r. ⌜ Wrote (now (out .entry)) 0 (refusalText number place) (now (out .exit)) r ⌝ }
 {
@@ -66,7 +66,7 @@ pub fn refusal(out: &mut [u8], number: u32, place: u32) -> usize
 }
 
 // The answer to a sheet whose job can be finished.
-pub fn finished(out: &mut [u8], yes: bool, word: u32, ending: &[u8]) -> usize
+pub(crate) fn finished(out: &mut [u8], yes: bool, word: u32, ending: &[u8]) -> usize
     requires { ⌜ (length (now ending) ≤ moreLimit) × (47 ≤ length (now out)) ⌝ }
     ensures { λ r. ⌜ Wrote (now (out .entry)) 0 (answerText yes word (some (now (ending .entry)))) (now (out .exit)) r ⌝ }
 {
@@ -76,7 +76,7 @@ pub fn finished(out: &mut [u8], yes: bool, word: u32, ending: &[u8]) -> usize
 }
 
 // The answer to a sheet whose job cannot be finished.
-pub fn unfinished(out: &mut [u8], yes: bool, word: u32) -> usize
+pub(crate) fn unfinished(out: &mut [u8], yes: bool, word: u32) -> usize
     requires { ⌜ 47 ≤ length (now out) ⌝ }
     ensures { λ r. ⌜ Wrote (now (out .entry)) 0 (answerText yes word none) (now (out .exit)) r ⌝ }
 {

@@ -18,7 +18,7 @@ fn byte(out: &mut [u8], to: usize, b: u8) -> usize
 }
 
 // A text.
-pub fn text(out: &mut [u8], to: usize, text: &[u8]) -> usize
+pub(crate) fn text(out: &mut [u8], to: usize, text: &[u8]) -> usize
     requires { ⌜ to + length (now text) ≤ length (now out) ⌝ }
     ensures { λ r. ⌜ Wrote (now (out .entry)) to (now (text .entry)) (now (out .exit)) r ⌝ }
 {
@@ -40,7 +40,7 @@ fn symbol(d: u32) -> u8
 }
 
 // A number in a base with so many digits, the highest first.
-pub fn number(out: &mut [u8], to: usize, n: u32, width: usize, base: u32) -> usize
+pub(crate) fn number(out: &mut [u8], to: usize, n: u32, width: usize, base: u32) -> usize
     requires { ⌜ (to + width ≤ length (now out)) × (0 < base) × (base ≤ 16) ⌝ }
     ensures { λ r. ⌜ Wrote (now (out .entry)) to (numeral base width n) (now (out .exit)) r ⌝ }
 {
@@ -52,7 +52,7 @@ pub fn number(out: &mut [u8], to: usize, n: u32, width: usize, base: u32) -> usi
 }
 
 // A number in plain decimals.
-pub fn decimal(out: &mut [u8], to: usize, n: u32) -> usize
+pub(crate) fn decimal(out: &mut [u8], to: usize, n: u32) -> usize
     requires { ⌜ (to + 3 ≤ length (now out)) × (n < 1000) ⌝ }
     ensures { λ r. ⌜ Wrote (now (out .entry)) to (Decimal.decimal n) (now (out .exit)) r ⌝ }
 {
@@ -72,7 +72,7 @@ fn wide(b: u8) -> u32
 }
 
 // Actions, two digits each, run together.
-pub fn actions(out: &mut [u8], to: usize, log: &[u8]) -> usize
+pub(crate) fn actions(out: &mut [u8], to: usize, log: &[u8]) -> usize
     requires { ⌜ to + 2 * length (now log) ≤ length (now out) ⌝ }
     ensures { λ r. ⌜ Wrote (now (out .entry)) to (logText (now (log .entry))) (now (out .exit)) r ⌝ }
 {

@@ -40,7 +40,7 @@ fn last_state(fluents: usize, actions: usize, start: u32, masks: &[u32], log: &[
 }
 
 // The three lines.
-pub fn respond(
+pub(crate) fn respond(
     fluents: usize,
     actions: usize,
     start: u32,

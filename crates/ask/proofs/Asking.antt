@@ -10,11 +10,10 @@ use lib.ListN.{length}
 use Rattle.meaning.specs.Limits.{textLimit, logLimit}
 use Rattle.meaning.specs.Rule.{Kind, testKind, walkKind, jobKind, Walk, Test, Rule, ofTest, ofWalk, Opens}
 use Rattle.meaning.specs.Refusal.{Row, Refused, Accepted, BadRule, BadTimes}
-use Rattle.meaning.proofs.Refusal.{here, passes, accepts, not-first, not-rest, rest-refused}
+use Rattle.meaning.proofs.Refusal.{here, passes, accepts, not-first, not-rest, rest-refused, refused-first, refused-second, accepted-both}
 use Rattle.meaning.proofs.Reading.{opens?, unique-reading}
 use Rattle.theory.specs.World.{Readable}
 use Rattle.theory.specs.Rows.{worldRows}
-use Rattle.theory.proofs.Settle.{refused-first, refused-second, accepted-both}
 use Rattle.theory.proofs.Reading.{checked, readable}
 use Rattle.rule.specs.Outcome.{ruleRows}
 use Rattle.ask.specs.Rows.{questionRows, timeRows, askRows}

@@ -14,7 +14,7 @@ use Rattle.meaning.proofs.Reach.{reached-unique}
 use Rattle.meaning.proofs.Refusal.{refused-unique, refused-not-accepted}
 use Rattle.laws.proofs.Truth.{same-truth}
 use Rattle.theory.specs.World.{worldOf}
-use Rattle.theory.proofs.Numbers.{one-number, some-number}
+use Rattle.refusal.proofs.Numbers.{one-number, some-number}
 use Rattle.ask.specs.Image.{Set, UpTo}
 use Rattle.rule.specs.Standing.{Stands}
 use Rattle.ask.specs.Found.{Told, WalkFound, TestFound}

@@ -11,7 +11,7 @@ ghost use Rattle.theory.specs.Check.{Settled};
 ghost use Rattle.rule.specs.Outcome.{kindOf};
 ghost use Rattle.ask.specs.Rows.{askRows};
 
-pub fn check(
+pub(crate) fn check(
     fluents: usize,
     actions: usize,
     start: u32,

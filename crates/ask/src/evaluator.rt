@@ -4,6 +4,9 @@ use crate::step::leaf;
 use crate::step::row;
 use crate::step::wide;
 use positions::PositionSet;
+use rule::ends::ENDS_ROOM;
+use theory::ACTION_LIMIT;
+use theory::FLUENT_LIMIT;
 ghost use mathlib.Core.Path.{_≡_};
 ghost use Prim.Native.Nat.{ℕ, _+_, _<_};
 ghost use lib.ListN.{length, getD};
@@ -22,13 +25,13 @@ pub fn second(ends: &[u8], at: usize) -> usize
 // The positions that the walk at a place leads to from those of a set; with `back`, its converse.
 pub fn walk(
     text: &[u8],
-    ends: &[u8],
+    ends: &[u8; ENDS_ROOM],
     at: usize,
     from: PositionSet,
     now: usize,
     back: bool,
-    done: &[u64],
-    lit: &[u64],
+    done: &[u64; ACTION_LIMIT],
+    lit: &[u64; FLUENT_LIMIT],
 ) -> PositionSet
     requires { ⌜ WalkHere (text .now) (ends .now) at ⌝ }
     ensures { λ r. ⌜ WalkFound (text .entry .now) at back (done .entry .now) (lit .entry .now) now (holds from) (holds r) ⌝ }
@@ -62,13 +65,13 @@ pub fn walk(
 // The positions that chains of the walk at a place lead to from those of a set. A star of a star is one star.
 fn star(
     text: &[u8],
-    ends: &[u8],
+    ends: &[u8; ENDS_ROOM],
     at: usize,
     from: PositionSet,
     now: usize,
     back: bool,
-    done: &[u64],
-    lit: &[u64],
+    done: &[u64; ACTION_LIMIT],
+    lit: &[u64; FLUENT_LIMIT],
 ) -> PositionSet
     requires { ⌜ WalkHere (text .now) (ends .now) at ⌝ }
     ensures { λ r. ⌜ ChainFound (text .entry .now) at back (done .entry .now) (lit .entry .now) now (holds from) (holds r) ⌝ }
@@ -91,12 +94,12 @@ fn star(
 // The positions of a set where the test at a place is true as a test inside a walk: each position is its own now.
 fn here(
     text: &[u8],
-    ends: &[u8],
+    ends: &[u8; ENDS_ROOM],
     at: usize,
     among: PositionSet,
     now: usize,
-    done: &[u64],
-    lit: &[u64],
+    done: &[u64; ACTION_LIMIT],
+    lit: &[u64; FLUENT_LIMIT],
 ) -> PositionSet
     requires { ⌜ TestHere (text .now) (ends .now) at ⌝ }
     ensures { λ r. ⌜ HereFound (text .entry .now) at (done .entry .now) (lit .entry .now) now (holds among) (holds r) ⌝ }
@@ -114,14 +117,14 @@ fn here(
 }
 
 // The positions of a set where the test at a place is true.
-pub fn test(
+pub(crate) fn test(
     text: &[u8],
-    ends: &[u8],
+    ends: &[u8; ENDS_ROOM],
     at: usize,
     among: PositionSet,
     now: usize,
-    done: &[u64],
-    lit: &[u64],
+    done: &[u64; ACTION_LIMIT],
+    lit: &[u64; FLUENT_LIMIT],
 ) -> PositionSet
     requires { ⌜ TestHere (text .now) (ends .now) at ⌝ }
     ensures { λ r. ⌜ TestFound (text .entry .now) at (done .entry .now) (lit .entry .now) now (holds among) (holds r) ⌝ }

@@ -3,15 +3,15 @@ ghost use Rattle.meaning.specs.Rule.{walkKind, testKind};
 ghost use Rattle.ask.specs.Answer.{ReachAnswered, VerdictAnswered};
 
 mod checks; // checks.rt: which refusal a question is given
-pub mod ends; // ends.rt: where each rule of a text ends
 pub mod evaluator; // evaluator.rt: the walk function and the test function
 pub mod step; // step.rt: the signs with no part
 
 use checks::check;
-use ends::mark;
 use positions::PositionSet;
 use refusal::Refusal;
 use rule::Kind;
+use rule::ends::ENDS_ROOM;
+use rule::ends::fill_ends;
 use theory::ACTION_LIMIT;
 use theory::Check;
 use theory::FLUENT_LIMIT;
@@ -51,8 +51,8 @@ pub fn reach(
     match check(fluents, actions, start, masks, log, walk, kind, then, now) {
         Check::Refused(r) => ReachAnswer::Refused(r),
         Check::Sound => {
-            let mut ends = [0u8; 256];
-            mark(walk, &mut ends);
+            let mut ends = [0u8; ENDS_ROOM];
+            fill_ends(walk, &mut ends);
             let mut done = [0u64; ACTION_LIMIT];
             let mut lit = [0u64; FLUENT_LIMIT];
             transpose(masks, start, log, &mut done, &mut lit);
@@ -87,8 +87,8 @@ pub fn verdict(
     match check(fluents, actions, start, masks, log, test, kind, then, now) {
         Check::Refused(r) => VerdictAnswer::Refused(r),
         Check::Sound => {
-            let mut ends = [0u8; 256];
-            mark(test, &mut ends);
+            let mut ends = [0u8; ENDS_ROOM];
+            fill_ends(test, &mut ends);
             let mut done = [0u64; ACTION_LIMIT];
             let mut lit = [0u64; FLUENT_LIMIT];
             transpose(masks, start, log, &mut done, &mut lit);

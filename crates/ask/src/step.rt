@@ -1,5 +1,6 @@
 // The signs with no part: one step of the log, up or down, and the row of a table that a sign names. Knows no other sign.
 use positions::PositionSet;
+use theory::ACTION_LIMIT;
 ghost use mathlib.Core.Path.{_≡_};
 ghost use mathlib.Core.Bool.{_&&_};
 ghost use Prim.Native.Nat.{ℕ, _+_, _<_};
@@ -12,7 +13,7 @@ ghost use Rattle.ask.specs.Image.{UpTo, Image, Turn, Crossing};
 ghost use Rattle.rule.specs.Standing.{NumberAt, Numbered};
 ghost use Rattle.ask.specs.Found.{LeafHere, LeafFound};
 
-pub fn wide(b: u8) -> usize
+pub(crate) fn wide(b: u8) -> usize
     ensures { λ r. ⌜ (r ≡ b) × (r < 256) ⌝ }
 {
     b as usize
@@ -31,7 +32,7 @@ pub fn named(text: &[u8], at: usize) -> usize
 }
 
 // The row of a table that the sign at a place names; a row that the table lacks is empty.
-pub fn row(text: &[u8], at: usize, table: &[u64]) -> PositionSet
+pub(crate) fn row(text: &[u8], at: usize, table: &[u64]) -> PositionSet
     requires { ⌜ Numbered (text .now) (at + 1) ⌝ }
     ensures { λ r. ⌜ ((n q : ℕ) → NumberAt (text .entry .now) (at + 1) n → holds r q ≡ (ltb q places && on (getD (table .entry .now) n 0) q)) ⌝ }
 {
@@ -66,13 +67,13 @@ fn cross(from: PositionSet, over: PositionSet, now: usize, back: bool) -> Positi
 }
 
 // The walk at a place, where it is `aNN`, `rNN`, `n` or `u`.
-pub fn leaf(
+pub(crate) fn leaf(
     text: &[u8],
     at: usize,
     from: PositionSet,
     now: usize,
     back: bool,
-    done: &[u64],
+    done: &[u64; ACTION_LIMIT],
 ) -> PositionSet
     requires { ⌜ LeafHere (text .now) at ⌝ }
     ensures { λ r. ⌜ LeafFound (text .entry .now) at back (done .entry .now) now (holds from) (holds r) ⌝ }

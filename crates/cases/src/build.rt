@@ -120,7 +120,7 @@ fn kept(table: &[u8], base: usize, next: usize, k: u8, out: &mut [u8], built: Bu
 }
 
 // The sheet of the row.
-pub fn sheet(table: &[u8], first: usize, end: usize, out: &mut [u8]) -> usize
+pub(crate) fn sheet(table: &[u8], first: usize, end: usize, out: &mut [u8]) -> usize
     requires { ⌜ (first ≤ end) × (end ≤ length (now table)) ⌝ }
     ensures { λ r. ⌜ Counts r (now (out .exit)) ⌝ }
 {
@@ -153,7 +153,7 @@ fn said(table: &[u8], at: usize, next: usize, out: &mut [u8], n: usize) -> usize
 }
 
 // The answer of the row.
-pub fn answer(table: &[u8], first: usize, end: usize, out: &mut [u8]) -> usize
+pub(crate) fn answer(table: &[u8], first: usize, end: usize, out: &mut [u8]) -> usize
     requires { ⌜ (first ≤ end) × (end ≤ length (now table)) ⌝ }
     ensures { λ r. ⌜ Counts r (now (out .exit)) ⌝ }
 {

@@ -3,7 +3,7 @@ ghost use Prim.Native.Nat.{_+_, _≤_, min};
 ghost use lib.ListN.{length};
 
 // The LF that ends the line, or the table's end.
-pub fn line_end(table: &[u8], at: usize) -> usize
+pub(crate) fn line_end(table: &[u8], at: usize) -> usize
     requires { ⌜ at ≤ length (now table) ⌝ }
     ensures { λ r. ⌜ (at ≤ r) × (r ≤ length (now (table .entry))) ⌝ }
 {
@@ -18,7 +18,7 @@ pub fn line_end(table: &[u8], at: usize) -> usize
 }
 
 // Where the text of a line starts that has a mark and a space in front of it.
-pub fn behind_mark(at: usize, end: usize) -> usize
+pub(crate) fn behind_mark(at: usize, end: usize) -> usize
     requires { ⌜ at ≤ end ⌝ }
     ensures { λ r. ⌜ r ≤ end ⌝ }
 {
@@ -26,7 +26,7 @@ pub fn behind_mark(at: usize, end: usize) -> usize
 }
 
 // Where the next line starts.
-pub fn next_line(table: &[u8], at: usize) -> usize
+pub(crate) fn next_line(table: &[u8], at: usize) -> usize
     requires { ⌜ at ≤ length (now table) ⌝ }
     ensures { λ r. ⌜ (at ≤ r) × (r ≤ length (now (table .entry))) × (min (at + 1) (length (now (table .entry))) ≤ r) ⌝ }
 {
@@ -38,7 +38,7 @@ pub fn next_line(table: &[u8], at: usize) -> usize
 }
 
 // Where the next row starts, from the start of a line on.
-pub fn next_row(table: &[u8], from: usize) -> usize
+pub(crate) fn next_row(table: &[u8], from: usize) -> usize
     requires { ⌜ from ≤ length (now table) ⌝ }
     ensures { λ r. ⌜ (from ≤ r) × (r ≤ length (now (table .entry))) ⌝ }
 {

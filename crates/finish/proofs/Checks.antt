@@ -14,10 +14,9 @@ use Rattle.meaning.specs.Refusal.{Row, Accepted, BadMore, TooShort}
 use Rattle.meaning.specs.Refusal.{Refused as RefusedBy}
 use Rattle.meaning.proofs.Finish.{first-not-none}
 use Rattle.meaning.proofs.Reading.{unique-reading}
-use Rattle.meaning.proofs.Refusal.{here, past, rest-refused, accepts, passes, not-first, not-rest}
+use Rattle.meaning.proofs.Refusal.{here, past, rest-refused, accepts, passes, not-first, not-rest, refused-first, refused-second, accepted-both}
 use Rattle.theory.specs.World.{worldOf}
 use Rattle.theory.specs.Rows.{worldRows}
-use Rattle.theory.proofs.Settle.{refused-first, refused-second, accepted-both}
 use Rattle.theory.proofs.Reading.{Checked}
 use Rattle.rule.specs.Outcome.{With, Spelled, ruleRows, Fitting}
 use Rattle.rule.specs.declared.Facts.{Facts}

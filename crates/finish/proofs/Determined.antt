@@ -10,7 +10,7 @@ use Rattle.meaning.proofs.Reading.{unique-reading}
 use Rattle.meaning.proofs.Finish.{first-unique}
 use Rattle.meaning.proofs.Refusal.{refused-unique, refused-not-accepted}
 use Rattle.theory.specs.World.{worldOf}
-use Rattle.theory.proofs.Numbers.{one-number, some-number}
+use Rattle.refusal.proofs.Numbers.{one-number, some-number}
 use Rattle.finish.specs.Answer.{numberGiven, countGiven, Finished, FinishAnswered}
 use Rattle.finish.specs.declared.FinishAnswer.{FinishAnswer}
 use Rattle.finish.specs.declared.FinishAnswer.the-variants.{Refused, Written}

@@ -11,7 +11,9 @@ ghost use Rattle.finish.specs.Found.{AskFound};
 use ask::evaluator;
 use ask::step;
 use positions::PositionSet;
+use rule::ends::ENDS_ROOM;
 use theory::ACTION_LIMIT;
+use theory::FLUENT_LIMIT;
 
 // Action a alone; none, where it is past the last.
 fn one(a: usize) -> u64
@@ -28,14 +30,14 @@ fn waits(from: PositionSet, end: usize, these: u64) -> u64
 }
 
 // The actions that the walk at a place asks for at the end, from some position of a set.
-pub fn asks(
+pub(crate) fn asks(
     text: &[u8],
-    ends: &[u8],
+    ends: &[u8; ENDS_ROOM],
     at: usize,
     from: PositionSet,
     end: usize,
-    done: &[u64],
-    lit: &[u64],
+    done: &[u64; ACTION_LIMIT],
+    lit: &[u64; FLUENT_LIMIT],
 ) -> u64
     requires { ⌜ WalkHere (now text) (now ends) at ⌝ }
     ensures { λ r. ⌜ AskFound (now (text .entry)) at (now (done .entry)) (now (lit .entry)) end (holds from) r ⌝ }

@@ -8,11 +8,12 @@ mod asks; // asks.rt: the actions that the job asks for next
 mod search; // search.rt: the search itself
 mod tries; // tries.rt: the actions to try next
 
-use ask::ends;
 use positions::PositionSet;
 use refusal::Refusal;
 use rule::Checked;
 use rule::Kind;
+use rule::ends::ENDS_ROOM;
+use rule::ends::fill_ends;
 use search::Found;
 use theory::Check;
 use theory::faults;
@@ -39,8 +40,8 @@ fn seek(
     requires { ⌜ Wanted actions (now masks) (now log) (now job) more (length (now out)) ⌝ }
     ensures { λ r. ⌜ SoughtTold actions start (now (masks .entry)) (now (log .entry)) (now (job .entry)) more (now (out .entry)) (now (out .exit)) r ⌝ }
 {
-    let mut ends = [0u8; 256];
-    ends::mark(job, &mut ends);
+    let mut ends = [0u8; ENDS_ROOM];
+    fill_ends(job, &mut ends);
     let mut trail = [0u8; PositionSet::PLACES];
     let n = bytes::copy(log, &mut trail);
     match search::first(actions, start, masks, job, &ends, &mut trail, n, more) {

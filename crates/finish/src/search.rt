@@ -7,9 +7,9 @@ ghost use Rattle.finish.specs.Found.{EndTold, LengthTold, FinishTold};
 use crate::tries::tries;
 use ask::evaluator;
 use positions::PositionSet;
+use rule::ends::ENDS_ROOM;
 use theory::ACTION_LIMIT;
 use theory::FLUENT_LIMIT;
-use theory::LOG_LIMIT;
 use theory::tables;
 
 // How many actions the first finishing sequence has.
@@ -19,7 +19,14 @@ pub enum Found {
 }
 
 // The job is finished as the log stands.
-fn finished(actions: usize, start: u32, masks: &[u32], job: &[u8], ends: &[u8], log: &[u8]) -> bool
+fn finished(
+    actions: usize,
+    start: u32,
+    masks: &[u32],
+    job: &[u8],
+    ends: &[u8; ENDS_ROOM],
+    log: &[u8],
+) -> bool
     requires { ⌜ Node actions (now masks) (now job) (now ends) (now log) ⌝ }
     ensures { λ r. ⌜ EndTold start (now (masks .entry)) (now (job .entry)) (now (log .entry)) r ⌝ }
 {
@@ -38,7 +45,7 @@ fn complete(
     start: u32,
     masks: &[u32],
     job: &[u8],
-    ends: &[u8],
+    ends: &[u8; ENDS_ROOM],
     trail: &mut [u8],
     n: usize,
     left: usize,
@@ -71,17 +78,17 @@ fn longest(n: usize, more: usize) -> usize
     requires { ⌜ n ≤ logLimit ⌝ }
     ensures { λ r. ⌜ r ≡ min more (logLimit - n) ⌝ }
 {
-    let room = LOG_LIMIT - n;
+    let room = PositionSet::LOG_LIMIT - n;
     if more < room { more } else { room }
 }
 
 // The first sequence of all that finish the job: how many actions it has; they then stand behind the first n of the trail, which hold the log.
-pub fn first(
+pub(crate) fn first(
     actions: usize,
     start: u32,
     masks: &[u32],
     job: &[u8],
-    ends: &[u8],
+    ends: &[u8; ENDS_ROOM],
     trail: &mut [u8],
     n: usize,
     more: usize,

@@ -3,6 +3,7 @@ ghost use Rattle.finish.specs.Sound.{Table, Node};
 ghost use Rattle.finish.specs.Found.{Doable, NextTold};
 use crate::asks::asks;
 use positions::PositionSet;
+use rule::ends::ENDS_ROOM;
 use theory::ACTION_LIMIT;
 use theory::FLUENT_LIMIT;
 use theory::log;
@@ -27,7 +28,14 @@ fn doable(actions: usize, masks: &[u32], state: u32) -> u64
 }
 
 // The actions to try next: those that are possible and that the job asks for. No other could begin a rest that finishes the job.
-pub fn tries(actions: usize, start: u32, masks: &[u32], job: &[u8], ends: &[u8], log: &[u8]) -> u64
+pub(crate) fn tries(
+    actions: usize,
+    start: u32,
+    masks: &[u32],
+    job: &[u8],
+    ends: &[u8; ENDS_ROOM],
+    log: &[u8],
+) -> u64
     requires { ⌜ Node actions (now masks) (now job) (now ends) (now log) ⌝ }
     ensures { λ r. ⌜ NextTold actions start (now (masks .entry)) (now (job .entry)) (now (log .entry)) r ⌝ }
 {

@@ -42,7 +42,7 @@ fn answer_of(answer: FinishAnswer, out: &[u8]) {
 }
 
 // A call whose output is this one.
-pub fn run_into(
+pub(crate) fn run_into(
     fluents: usize,
     actions: usize,
     start: u32,
@@ -62,7 +62,7 @@ pub fn run_into(
 }
 
 // A call whose output has room for the longest sequence.
-pub fn run(
+pub(crate) fn run(
     fluents: usize,
     actions: usize,
     start: u32,

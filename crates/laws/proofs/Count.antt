@@ -6,7 +6,7 @@ use mathlib.Core.Bool.{Bool, true, false}
 use Prim.Native.Nat.{ℕ, zero, suc, _+_, _-_, _^_, _≤_, _<_}
 use native.Mathlib.Nat.{eq-or-lt-of-le, le-of-suc-le-suc}
 use native.Mathlib.Omega.{arith}
-use lib.Arith.{lt-one}
+use lib.Arith.{le-zero, lt-one}
 use lib.Count.{ones, ones-step}
 use Rattle.laws.specs.Bit.{on, countBelow}
 use Rattle.laws.proofs.On.{digit, digit-le, on-zero, on-suc}
@@ -68,3 +68,14 @@ count-ones (suc k) {a} h =
     count-step k (on a)
     ∙ ap₂ (λ (m n : ℕ). m + n) (on-zero a) (count-cong k (λ i l. on-suc a i) ∙ count-ones k (omega arith))
     ∙ sym (ones-step a)
+
+-- a test that fails from k on: what passes below a larger bound is found below k
+pub count-cut : (k j : ℕ) (f : ℕ → Bool) → ((i : ℕ) → k ≤ i → f i ≡ false) → k ≤ j → countBelow j f ≡ countBelow k f
+unfolding countBelow
+count-cut k zero f off l = ap (λ (i : ℕ). countBelow i f) (sym (le-zero l))
+count-cut k (suc j) f off l =
+    ⊎-elim (λ e. ap (λ (i : ℕ). countBelow i f) (sym e)) (λ h. last (le-of-suc-le-suc h) (count-cut k j f off (le-of-suc-le-suc h)))
+    (eq-or-lt-of-le l)
+  where
+    last : k ≤ j → countBelow j f ≡ countBelow k f → countBelow (suc j) f ≡ countBelow k f
+    last h e = rw (off j h) (omega arith)

@@ -22,7 +22,8 @@ use Rattle.meaning.specs.Normal.{normal, normalRule}
 use Rattle.meaning.specs.Cases.{Verdict, yes, no, Finished, sequence, refusal, Case, reach, verdict, form, finish, cases, jobWith}
 use Rattle.meaning.specs.Cases.{Spelled, OfWalk, OfTest, Told, Ends, Says, AllSay}
 use Rattle.meaning.proofs.Bounds.{leads-within}
-use Rattle.meaning.proofs.Beyond.{firstUpTo, count-cut, first-cut}
+use Rattle.laws.proofs.Count.{count-cut}
+use Rattle.laws.proofs.First.{firstUpTo, first-cut}
 use Rattle.meaning.proofs.Tells.{Tells, eq-tells, le-tells, lt-tells, and-tells, not-tells, tells-as, same, same-tells}
 use Rattle.meaning.proofs.Evaluate.{leadsGrid, leads-draws, valueOf, value-gives}
 use Rattle.meaning.proofs.Endings.{first, first-true, nothing, nothing-true}

@@ -12,7 +12,6 @@ pub mod Onward
 pub mod Asks
 pub mod Reading
 pub mod Tells
-pub mod Beyond
 pub mod Grid
 pub mod Possible
 pub mod Evaluate

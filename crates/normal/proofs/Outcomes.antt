@@ -15,7 +15,7 @@ use Rattle.meaning.proofs.Reading.{unique-reading}
 use Rattle.refusal.specs.declared.Refusal.{Refusal}
 use Rattle.refusal.specs.declared.Refusal.the-variants.{SheetTooLong, BadLine, BadNumber, LacksFluent, BadLog, BadRule, LacksName, TooDeep, BackwardJob, BadPosition, NoFinish, ShortOutput}
 use Rattle.refusal.specs.Number.{numberOf}
-use Rattle.rule.proofs.Refusals.{same-case}
+use Rattle.refusal.proofs.Numbers.{one-number}
 use Rattle.rule.specs.Outcome.{Spelled, With, ruleRows}
 use Rattle.normal.specs.declared.NormalAnswer.{NormalAnswer}
 use Rattle.normal.specs.Answer.{normalText, numberIn, countIn, Settled, NormalOutcome}
@@ -138,7 +138,7 @@ number-some NoFinish = omega arith
 number-some ShortOutput = omega arith
 
 same-answer : (a b : NormalAnswer) → numberIn a ≡ numberIn b → countIn a ≡ countIn b → a ≡ b
-same-answer (NormalAnswer.Refused why) (NormalAnswer.Refused why′) e f = ap NormalAnswer.Refused (same-case why why′ e)
+same-answer (NormalAnswer.Refused why) (NormalAnswer.Refused why′) e f = ap NormalAnswer.Refused (one-number why why′ e)
 same-answer (NormalAnswer.Refused why) (NormalAnswer.Written n) e f = absurd (omega (arith, number-some why))
 same-answer (NormalAnswer.Written n) (NormalAnswer.Refused why) e f = absurd (omega (arith, number-some why))
 same-answer (NormalAnswer.Written n) (NormalAnswer.Written m) e f = ap NormalAnswer.Written f

@@ -42,7 +42,7 @@ fn number(text: &[u8], at: usize, out: &mut [u8], to: usize) -> Spot
 }
 
 // The walk at `at`, or under a converse its converse. Of a sequence under a converse the second part comes first.
-pub fn walk(text: &[u8], at: usize, back: bool, out: &mut [u8], to: usize) -> Spot
+pub(crate) fn walk(text: &[u8], at: usize, back: bool, out: &mut [u8], to: usize) -> Spot
     requires { ⌜ WalkHere (now text) at to ⌝ }
     ensures { λ r. ⌜ WalkWritten (now (text .entry)) back at to (now (out .entry)) (r .at) (r .to) (now (out .exit)) ⌝ }
 {
@@ -80,7 +80,7 @@ pub fn walk(text: &[u8], at: usize, back: bool, out: &mut [u8], to: usize) -> Sp
 }
 
 // The test at `at`. A converse outside it does not reach the walks inside.
-pub fn test(text: &[u8], at: usize, out: &mut [u8], to: usize) -> Spot
+pub(crate) fn test(text: &[u8], at: usize, out: &mut [u8], to: usize) -> Spot
     requires { ⌜ TestHere (now text) at to ⌝ }
     ensures { λ r. ⌜ TestWritten (now (text .entry)) at to (now (out .entry)) (r .at) (r .to) (now (out .exit)) ⌝ }
 {

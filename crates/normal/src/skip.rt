@@ -9,7 +9,7 @@ pub struct Sign {
     pub parts: usize,
 }
 
-pub fn sign_of(byte: u8) -> Sign
+pub(crate) fn sign_of(byte: u8) -> Sign
     ensures { λ r. ⌜ (r .bytes ≡ ownOf byte) × (r .parts ≡ partsOf byte) ⌝ }
 {
     match byte {
@@ -21,7 +21,7 @@ pub fn sign_of(byte: u8) -> Sign
 }
 
 // Where the rule that stands at `at` ends: `left` rules are still to be passed.
-pub fn end(text: &[u8], at: usize) -> usize
+pub(crate) fn end(text: &[u8], at: usize) -> usize
     requires { ⌜ RuleHere (now text) at ⌝ }
     ensures { λ r. ⌜ Ends (now (text .entry)) at r ⌝ }
 {

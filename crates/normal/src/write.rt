@@ -2,7 +2,7 @@
 ghost use mathlib.Core.Path.{_≡_};
 ghost use lib.ListN.{set};
 
-pub fn put(out: &mut [u8], to: usize, b: u8)
+pub(crate) fn put(out: &mut [u8], to: usize, b: u8)
     ensures { λ _. ⌜ now (out .exit) ≡ set (now (out .entry)) to b ⌝ }
 {
     if to < out.len() {

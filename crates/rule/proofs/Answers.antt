@@ -3,7 +3,7 @@ use mathlib.Core.Path.{_≡_, refl, sym, ap, ap₂, subst, subst⁻¹, _∙_}
 use mathlib.Core.Logic.{_⊎_, inl, inr, ⊎-elim, _↔_}
 use mathlib.Core.Bool.{Bool, true, false}
 use mathlib.Core.List.{List, [], _++_}
-use Prim.Native.Nat.{ℕ, _+_, _≤_, _<_}
+use Prim.Native.Nat.{ℕ, _+_, _-_, _≤_, _<_}
 use native.Mathlib.Omega.{arith}
 use lib.ListN.{length, drop, getD, length-drop, length-append, drop-of-length-le}
 use lib.Seq.{drop-drop, drop-append-seam}
@@ -312,11 +312,11 @@ rule-deep (ofWalk w) = walk-deep w
 pub text-some : (r : Rule) → 0 < length (text r)
 text-some r = omega (arith, rule-deep r)
 
--- a rule that is found ends past its place and within the text, and is no deeper than the text is long
+-- a rule that is found ends past its place and within the text, and is no deeper than the text is long from there on
 pub record Within (bytes : List ℕ) (at : ℕ) (f : Facts) : Type 0 where
   pub past : at < f .end
   pub inside : f .end ≤ length bytes
-  pub deep : f .depth ≤ length bytes
+  pub deep : f .depth ≤ length bytes - at
 
 pub found-within : (kind : Kind) (bytes : List ℕ) (at : ℕ) (f : Facts) → ReadAt kind bytes at (Read.Found f) → Within bytes at f
 found-within kind bytes at f (r, rest, o, e) =
@@ -325,6 +325,6 @@ found-within kind bytes at f (r, rest, o, e) =
     let (some, few) = rule-deep r in
     subst⁻¹ (Within bytes at) e (record { past = omega arith; inside = omega arith; deep = omega arith })
 
-pub depth-within : (kind : Kind) (bytes : List ℕ) (at : ℕ) (r : Read) → ReadAt kind bytes at r → depthIn r ≤ length bytes
+pub depth-within : (kind : Kind) (bytes : List ℕ) (at : ℕ) (r : Read) → ReadAt kind bytes at r → depthIn r ≤ length bytes - at
 depth-within kind bytes at Read.Refused h = omega arith
 depth-within kind bytes at (Read.Found f) h = found-within kind bytes at f h .deep

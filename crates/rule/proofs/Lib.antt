@@ -1,6 +1,5 @@
 pub mod Numbers
 pub mod Answers
-pub mod Refusals
 pub mod Outcomes
 pub mod Widths
 pub mod Spread

@@ -20,7 +20,7 @@ use Rattle.rule.specs.declared.answer.Read.{Read}
 use Rattle.rule.specs.Facts.{factsOf}
 use Rattle.rule.specs.Read.{ReadAt}
 use Rattle.rule.proofs.Answers.{text-some}
-use Rattle.rule.proofs.Refusals.{same-case}
+use Rattle.refusal.proofs.Numbers.{one-number}
 use Rattle.rule.specs.Outcome.{Spelled, Unspelled, With, Fitting, CheckedAs, ReadOutcome, Opening, factRows, JudgedAs}
 
 -- Two tables with the same numbers, whose sentences hold alike, give the same answer.
@@ -205,7 +205,7 @@ read-rule-determined kind bytes fluents actions n n′ part part′ (inr h) (inr
 -- Of `check_rule`: two answers are equal.
 pub check-rule-determined : (kind : Kind) (bytes : List ℕ) (fluents actions : ℕ) (r r′ : Checked)
     → CheckedAs true kind bytes fluents actions r → CheckedAs true kind bytes fluents actions r′ → r ≡ r′
-check-rule-determined kind bytes fluents actions (Checked.Refused why) (Checked.Refused why′) h h′ = ap Checked.Refused (same-case why why′ (refused-unique h h′))
+check-rule-determined kind bytes fluents actions (Checked.Refused why) (Checked.Refused why′) h h′ = ap Checked.Refused (one-number why why′ (refused-unique h h′))
 check-rule-determined kind bytes fluents actions (Checked.Refused why) (Checked.Fits f) h h′ = absurd (refused-not-accepted h (h′ .accepted))
 check-rule-determined kind bytes fluents actions (Checked.Fits f) (Checked.Refused why) h h′ = absurd (refused-not-accepted h′ (h .accepted))
 check-rule-determined kind bytes fluents actions (Checked.Fits f) (Checked.Fits f′) h h′ =

@@ -5,7 +5,7 @@ use mathlib.Core.List.{List, [], _∷_, _++_, append-assoc}
 use Prim.Native.Nat.{ℕ, zero, suc, _+_, _-_, _≤_, _<_}
 use native.Mathlib.Omega.{arith}
 use native.Mathlib.Decide.{decLe, decLt, ℕ-discrete}
-use lib.ListN.{length, drop, getD, set, length-drop, length-append, length-set}
+use lib.ListN.{length, drop, getD, set, replicate, length-drop, length-append, length-set, length-replicate}
 use lib.Seq.{drop-drop, drop-length, drop-append-seam, getD-set-same, getD-set-other, ext-getD}
 use borrow.Author.Tests.{ne-eqb}
 use Rattle.meaning.specs.Limits.{textLimit}
@@ -13,6 +13,7 @@ use Rattle.meaning.specs.Rule.{Walk, Test, act, undo, next, prev, seq, alt, sta
 use Rattle.meaning.specs.Rule as meaning
 use Rattle.rule.specs.declared.ends.Follow.{Follow}
 use Rattle.rule.specs.declared.ends.Follow.the-variants.{Nothing, Digits, Rule, Rules}
+use Rattle.rule.specs.Standing.{Stands, Ends}
 use Rattle.rule.specs.Ends.{followOf, widthBy, widths, endAt, TableFrom, Filled, FillOutcome}
 use Rattle.rule.proofs.Numbers.{here}
 use Rattle.rule.proofs.Answers.{text-some}
@@ -253,8 +254,19 @@ fill-ends-determined bytes before after after′ o o′ = go (decLe (length byte
 spelled-inside : (bytes : List ℕ) (at : ℕ) (r : meaning.Rule) (rest : List ℕ) → drop at bytes ≡ text r ++ rest → at ≤ length bytes
 spelled-inside bytes at r rest e = omega (arith, ap length e, length-append (text r) rest, length-drop at bytes, text-some r)
 
-pub walk-told : (bytes before ends : List ℕ) → Filled bytes before ends → (at : ℕ) (w : Walk) (rest : List ℕ) → drop at bytes ≡ walkText w ++ rest → getD ends at 0 ≡ at + length (walkText w)
+walk-told : (bytes before ends : List ℕ) → Filled bytes before ends → (at : ℕ) (w : Walk) (rest : List ℕ) → drop at bytes ≡ walkText w ++ rest → getD ends at 0 ≡ at + length (walkText w)
 walk-told bytes before ends f at w rest e = f .told at (spelled-inside bytes at (ofWalk w) rest e) ∙ walk-end bytes at w rest e
 
-pub test-told : (bytes before ends : List ℕ) → Filled bytes before ends → (at : ℕ) (t : Test) (rest : List ℕ) → drop at bytes ≡ testText t ++ rest → getD ends at 0 ≡ at + length (testText t)
+test-told : (bytes before ends : List ℕ) → Filled bytes before ends → (at : ℕ) (t : Test) (rest : List ℕ) → drop at bytes ≡ testText t ++ rest → getD ends at 0 ≡ at + length (testText t)
 test-told bytes before ends f at t rest e = f .told at (spelled-inside bytes at (ofTest t) rest e) ∙ test-end bytes at t rest e
+
+-- so a new table, filled for a text of a rule's length, is the text's
+pub ends-told : (bytes ends : List ℕ) → length bytes ≤ textLimit → FillOutcome bytes (replicate (textLimit + 1) 0) ends → Ends bytes ends
+ends-told bytes ends short o = record { each = go }
+  where
+    filled : Filled bytes (replicate (textLimit + 1) 0) ends
+    filled = o .filled short (omega (arith, length-replicate {A = ℕ} (textLimit + 1) 0))
+
+    go : (at : ℕ) (r : meaning.Rule) → Stands bytes at r → getD ends at 0 ≡ at + length (text r)
+    go at (ofWalk w) h = walk-told bytes (replicate (textLimit + 1) 0) ends filled at w (h .rest) (h .spells)
+    go at (ofTest t) h = test-told bytes (replicate (textLimit + 1) 0) ends filled at t (h .rest) (h .spells)

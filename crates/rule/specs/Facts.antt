@@ -1,6 +1,7 @@
 -- The facts of a rule, and how they come from those of its parts: what the readers' contracts cite.
 use mathlib.Core.Bool.{Bool, false, _||_}
-use Prim.Native.Nat.{ℕ, _+_, max}
+use Prim.Native.Nat.{ℕ, _+_, _≤_, _<_, max}
+use Rattle.meaning.specs.Limits.{textLimit, twoDigits}
 use Rattle.meaning.specs.Rule.{Rule, depth, actionsIn, fluentsIn, backwardIn}
 use Rattle.rule.specs.declared.Facts.{Facts}
 use Rattle.rule.specs.declared.answer.Read.{Read}
@@ -14,6 +15,11 @@ factsOf end rule =
 abbrev pub depthIn : Read → ℕ
 depthIn Read.Refused = 0
 depthIn (Read.Found f) = f .depth
+
+-- where a number stands: two digits write it, and what it ends ends within a text
+abbrev pub NamedWithin : Number → ℕ → Type 0
+NamedWithin Number.Not end = Unit {0}
+NamedWithin (Number.Is n) end = (n < twoDigits) × (end ≤ textLimit)
 
 abbrev pub leafOf : ℕ → Bool → Read
 leafOf end turn = Read.Found (record { end = end; depth = 1; actions = 0; fluents = 0; backward = turn })

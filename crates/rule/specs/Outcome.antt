@@ -21,11 +21,6 @@ kindOf Kind.Test = testKind
 kindOf Kind.Walk = walkKind
 kindOf Kind.Job = jobKind
 
--- a flag says of a sentence whether it holds
-abbrev pub Says : Bool → Type 0 → Type 0
-Says true x = x
-Says false x = x → ⊥
-
 -- The bytes spell this rule: the whole of them, or with a rest after it, which "is no fault there".
 abbrev pub Spelled : Bool → meaning.Kind → List ℕ → Rule → Type 0
 Spelled true kind bytes rule = Opens kind bytes rule []

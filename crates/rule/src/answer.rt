@@ -3,8 +3,9 @@ use crate::Facts;
 use crate::number::Number;
 ghost use mathlib.Core.Path.{_≡_};
 ghost use mathlib.Core.Bool.{_||_};
-ghost use Prim.Native.Nat.{_<_, _^_, max};
-ghost use Rattle.rule.specs.Facts.{depthIn, leafOf, stepOf, fluentOf, aboveOf, besideOf, insideOf};
+ghost use Prim.Native.Nat.{_≤_, _<_, max};
+ghost use Rattle.meaning.specs.Limits.{textLimit};
+ghost use Rattle.rule.specs.Facts.{depthIn, NamedWithin, leafOf, stepOf, fluentOf, aboveOf, besideOf, insideOf};
 
 // What a reader answers: no rule of its kind stands there, or the facts of the one that does.
 pub enum Read {
@@ -12,7 +13,7 @@ pub enum Read {
     Found(Facts),
 }
 
-fn larger(a: usize, b: usize) -> usize
+fn larger(a: u8, b: u8) -> u8
     ensures { λ r. ⌜ r ≡ max a b ⌝ }
 {
     if a < b { b } else { a }
@@ -25,11 +26,12 @@ fn either(a: bool, b: bool) -> bool
 }
 
 // A sign with no part: where it ends, and whether it is a backward sign.
-pub fn leaf(end: usize, turn: bool) -> Read
+pub(crate) fn leaf(end: usize, turn: bool) -> Read
+    requires { ⌜ end ≤ textLimit ⌝ }
     ensures { λ r. ⌜ r ≡ leafOf end turn ⌝ }
 {
     Read::Found(Facts {
-        end: end,
+        end: end as u8,
         depth: 1,
         actions: 0,
         fluents: 0,
@@ -38,15 +40,16 @@ pub fn leaf(end: usize, turn: bool) -> Read
 }
 
 // A step that names an action.
-pub fn step(name: Number, end: usize, turn: bool) -> Read
+pub(crate) fn step(name: Number, end: usize, turn: bool) -> Read
+    requires { ⌜ NamedWithin name end ⌝ }
     ensures { λ r. ⌜ r ≡ stepOf name end turn ⌝ }
 {
     match name {
         Number::Not => Read::Refused,
         Number::Is(n) => Read::Found(Facts {
-            end: end,
+            end: end as u8,
             depth: 1,
-            actions: (n as usize) + 1,
+            actions: (n as u8) + 1,
             fluents: 0,
             backward: turn,
         }),
@@ -54,24 +57,25 @@ pub fn step(name: Number, end: usize, turn: bool) -> Read
 }
 
 // A test that names a fluent.
-pub fn fluent(name: Number, end: usize) -> Read
+pub(crate) fn fluent(name: Number, end: usize) -> Read
+    requires { ⌜ NamedWithin name end ⌝ }
     ensures { λ r. ⌜ r ≡ fluentOf name end ⌝ }
 {
     match name {
         Number::Not => Read::Refused,
         Number::Is(n) => Read::Found(Facts {
-            end: end,
+            end: end as u8,
             depth: 1,
             actions: 0,
-            fluents: (n as usize) + 1,
+            fluents: (n as u8) + 1,
             backward: false,
         }),
     }
 }
 
 // A sign above one part.
-pub fn above(part: Read, turn: bool) -> Read
-    requires { ⌜ depthIn part < 2 ^ 63 ⌝ }
+pub(crate) fn above(part: Read, turn: bool) -> Read
+    requires { ⌜ depthIn part < textLimit ⌝ }
     ensures { λ r. ⌜ r ≡ aboveOf part turn ⌝ }
 {
     match part {
@@ -87,8 +91,8 @@ pub fn above(part: Read, turn: bool) -> Read
 }
 
 // A sign above two parts, of which the first is read.
-pub fn beside(first: Facts, second: Read) -> Read
-    requires { ⌜ (first .depth < 2 ^ 63) × (depthIn second < 2 ^ 63) ⌝ }
+pub(crate) fn beside(first: Facts, second: Read) -> Read
+    requires { ⌜ (first .depth < textLimit) × (depthIn second < textLimit) ⌝ }
     ensures { λ r. ⌜ r ≡ besideOf first second ⌝ }
 {
     match second {
@@ -104,7 +108,7 @@ pub fn beside(first: Facts, second: Read) -> Read
 }
 
 // The walk of a `<`: no backward sign in it stands outside.
-pub fn inside(walk: Facts) -> Facts
+pub(crate) fn inside(walk: Facts) -> Facts
     ensures { λ r. ⌜ r ≡ insideOf walk ⌝ }
 {
     Facts {

@@ -3,6 +3,10 @@ ghost use mathlib.Core.Path.{_≡_};
 ghost use Prim.Native.Nat.{_<_};
 ghost use lib.ListN.{length};
 ghost use Rattle.rule.specs.Ends.{followOf, TableFrom, endAt, FillOutcome};
+use crate::TEXT_LIMIT;
+
+// A table of a whole text: a byte for each place, and for the end.
+pub const ENDS_ROOM: usize = TEXT_LIMIT + 1;
 
 // What follows a sign: nothing, the two digits of a number, one rule or two.
 pub enum Follow {
@@ -54,7 +58,7 @@ pub fn fill_ends(text: &[u8], ends: &mut [u8])
     ensures { λ _. ⌜ FillOutcome (now (text .entry)) (now (ends .entry)) (now (ends .exit)) ⌝ }
 {
     let length = text.len();
-    if 255 < length {
+    if TEXT_LIMIT < length {
         return;
     }
     if ends.len() <= length {

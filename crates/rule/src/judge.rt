@@ -2,38 +2,22 @@
 use crate::Checked;
 use crate::Facts;
 use crate::Kind;
+use crate::TEXT_LIMIT;
 use crate::answer::Read;
 use crate::reader::read_test;
 use crate::reader::read_walk;
+use positions::PositionSet;
 use refusal::Refusal;
-ghost use Rattle.meaning.specs.Refusal.{BadCounts};
+use theory::faults::bad_counts;
+ghost use Prim.Native.Nat.{_≤_};
+ghost use lib.ListN.{length};
+ghost use Rattle.meaning.specs.Limits.{textLimit};
 ghost use Rattle.rule.specs.Read.{ReadAt};
-ghost use Rattle.rule.specs.Outcome.{kindOf, Says, OpenedAs, JudgedAs, CheckedAs};
-
-// Document 01: "Fluents are numbered 00 to at most 31, actions 00 to at most 63", "1 to 255 bytes", "Depth: .. at most 24".
-const FLUENTS: usize = 32;
-
-const ACTIONS: usize = 64;
-
-const TEXT: usize = 255;
-
-const DEPTH: usize = 24;
-
-// Refusal 3: a count out of its range.
-fn bad_counts(fluents: usize, actions: usize) -> bool
-    ensures { λ r. ⌜ Says r (BadCounts fluents actions) ⌝ }
-{
-    if FLUENTS < fluents {
-        return true;
-    }
-    if actions < 1 {
-        return true;
-    }
-    if ACTIONS < actions { true } else { false }
-}
+ghost use Rattle.rule.specs.Outcome.{kindOf, OpenedAs, JudgedAs, CheckedAs};
 
 // A job is read as a walk is.
 fn read_kind(text: &[u8], kind: Kind) -> Read
+    requires { ⌜ length (now text) ≤ textLimit ⌝ }
     ensures { λ r. ⌜ ReadAt (kindOf kind) (now (text .entry)) 0 r ⌝ }
 {
     match kind {
@@ -48,13 +32,13 @@ fn opening(text: &[u8], kind: Kind, whole: bool) -> Read
     ensures { λ r. ⌜ OpenedAs whole (kindOf kind) (now (text .entry)) r ⌝ }
 {
     let length = text.len();
-    if TEXT < length {
+    if TEXT_LIMIT < length {
         return Read::Refused;
     }
     match read_kind(text, kind) {
         Read::Refused => Read::Refused,
         Read::Found(f) => {
-            let end = f.end;
+            let end = f.end as usize;
             if whole {
                 if end != length {
                     return Read::Refused;
@@ -69,13 +53,13 @@ fn opening(text: &[u8], kind: Kind, whole: bool) -> Read
 fn judge(f: Facts, kind: Kind, fluents: usize, actions: usize) -> Checked
     ensures { λ r. ⌜ JudgedAs (kindOf kind) fluents actions f r ⌝ }
 {
-    if actions < f.actions {
+    if actions < f.actions as usize {
         return Checked::Refused(Refusal::LacksName);
     }
-    if fluents < f.fluents {
+    if fluents < f.fluents as usize {
         return Checked::Refused(Refusal::LacksName);
     }
-    if DEPTH < f.depth {
+    if PositionSet::DEPTH_LIMIT < f.depth as usize {
         return Checked::Refused(Refusal::TooDeep);
     }
     match kind {
@@ -92,7 +76,13 @@ fn judge(f: Facts, kind: Kind, fluents: usize, actions: usize) -> Checked
 }
 
 // All checks of a rule in the order of their numbers; with `whole`, nothing may follow the rule.
-pub fn survey(text: &[u8], kind: Kind, fluents: usize, actions: usize, whole: bool) -> Checked
+pub(crate) fn survey(
+    text: &[u8],
+    kind: Kind,
+    fluents: usize,
+    actions: usize,
+    whole: bool,
+) -> Checked
     ensures { λ r. ⌜ CheckedAs whole (kindOf kind) (now (text .entry)) fluents actions r ⌝ }
 {
     if bad_counts(fluents, actions) {

@@ -9,6 +9,9 @@ use refusal::Refusal;
 ghost use mathlib.Core.Bool.{true};
 ghost use Rattle.rule.specs.Outcome.{kindOf, ReadOutcome, CheckedAs};
 
+// "1 to 255 bytes"
+pub const TEXT_LIMIT: usize = 255;
+
 // "A rule is used as a *test*, as a *walk* (questions only) or as a *job* (a walk to be carried out)."
 pub enum Kind {
     Test,
@@ -17,12 +20,12 @@ pub enum Kind {
 }
 
 // What is told of a rule: where it ends, its depth, how many actions and fluents a theory must have to know all that it names, and whether a
-// backward sign stands outside every `<` walk.
+// backward sign stands outside every `<` walk. A byte each: no text is longer than 255, and each call of the readers holds several.
 pub struct Facts {
-    pub end: usize,
-    pub depth: usize,
-    pub actions: usize,
-    pub fluents: usize,
+    pub end: u8,
+    pub depth: u8,
+    pub actions: u8,
+    pub fluents: u8,
     pub backward: bool,
 }
 
@@ -56,7 +59,7 @@ pub fn read_rule<'a>(
         }
         Checked::Fits(facts) => {
             *refusal = 0;
-            let end = facts.end;
+            let end = facts.end as usize;
             &text[end..]
         }
     }

@@ -36,7 +36,7 @@ fn pair(tens: Digit, ones: Digit) -> Number
 }
 
 // The number whose two digits stand at a place of the text.
-pub fn number_at(text: &[u8], at: usize) -> Number
+pub(crate) fn number_at(text: &[u8], at: usize) -> Number
     ensures { λ r. ⌜ NumberAt (now (text .entry)) at r ⌝ }
 {
     if text.len() <= at {

@@ -1,4 +1,5 @@
 // The two readers: a walk's and a test's, which call one another, each on a shorter rest. Each byte is read once.
+// They are given at most 255 bytes, so that each fact of what they find fits a byte.
 use crate::answer::Read;
 use crate::answer::above;
 use crate::answer::beside;
@@ -7,11 +8,15 @@ use crate::answer::inside;
 use crate::answer::leaf;
 use crate::answer::step;
 use crate::number::number_at;
+ghost use Prim.Native.Nat.{_≤_};
+ghost use lib.ListN.{length};
+ghost use Rattle.meaning.specs.Limits.{textLimit};
 ghost use Rattle.meaning.specs.Rule.{walkKind, testKind};
 ghost use Rattle.rule.specs.Read.{ReadAt};
 
 // The walk that stands at a place of the text.
-pub fn read_walk(text: &[u8], at: usize) -> Read
+pub(crate) fn read_walk(text: &[u8], at: usize) -> Read
+    requires { ⌜ length (now text) ≤ textLimit ⌝ }
     ensures { λ r. ⌜ ReadAt walkKind (now (text .entry)) at r ⌝ }
 {
     if text.len() <= at {
@@ -27,7 +32,7 @@ pub fn read_walk(text: &[u8], at: usize) -> Read
         b';' | b'|' => match read_walk(text, next) {
             Read::Refused => Read::Refused,
             Read::Found(first) => {
-                let middle = first.end;
+                let middle = first.end as usize;
                 let second = read_walk(text, middle);
                 beside(first, second)
             }
@@ -40,7 +45,8 @@ pub fn read_walk(text: &[u8], at: usize) -> Read
 }
 
 // The test that stands at a place of the text.
-pub fn read_test(text: &[u8], at: usize) -> Read
+pub(crate) fn read_test(text: &[u8], at: usize) -> Read
+    requires { ⌜ length (now text) ≤ textLimit ⌝ }
     ensures { λ r. ⌜ ReadAt testKind (now (text .entry)) at r ⌝ }
 {
     if text.len() <= at {
@@ -55,7 +61,7 @@ pub fn read_test(text: &[u8], at: usize) -> Read
         b'&' => match read_test(text, next) {
             Read::Refused => Read::Refused,
             Read::Found(first) => {
-                let middle = first.end;
+                let middle = first.end as usize;
                 let second = read_test(text, middle);
                 beside(first, second)
             }
@@ -63,7 +69,7 @@ pub fn read_test(text: &[u8], at: usize) -> Read
         b'<' => match read_walk(text, next) {
             Read::Refused => Read::Refused,
             Read::Found(first) => {
-                let middle = first.end;
+                let middle = first.end as usize;
                 let second = read_test(text, middle);
                 beside(inside(first), second)
             }

@@ -4,7 +4,7 @@ use mathlib.Core.Logic.{inl, inr}
 use mathlib.Core.List.{List, [], _++_}
 use Prim.Native.Nat.{ℕ, zero, suc, _+_, _≤_}
 use native.Mathlib.Omega.{arith}
-use Rattle.theory.proofs.Numbers.{one-number}
+use Rattle.refusal.proofs.Numbers.{one-number}
 use Rattle.meaning.proofs.Refusal.{refused-unique, refused-not-accepted}
 use Rattle.meaning.specs.Limits.{actionLimit}
 use Rattle.sheet.specs.Line.{Form}

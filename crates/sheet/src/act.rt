@@ -19,7 +19,7 @@ use theory::STRIDE;
 use theory::faults;
 
 // Three commas part the four masks of eight digits that start at this place.
-pub fn parted(sheet: &[u8], start: usize) -> bool
+pub(crate) fn parted(sheet: &[u8], start: usize) -> bool
     requires { ⌜ start + 35 ≤ length (now sheet) ⌝ }
     ensures { λ r. ⌜ (r ≡ true) ↔ Parted (now (sheet .entry)) start ⌝ }
 {
@@ -33,7 +33,13 @@ pub fn parted(sheet: &[u8], start: usize) -> bool
 }
 
 // Reads the four masks of a stretch into the table from this row on: whether they are written as they should be.
-pub fn read_masks(sheet: &[u8], start: usize, end: usize, masks: &mut [u32], row: usize) -> bool
+pub(crate) fn read_masks(
+    sheet: &[u8],
+    start: usize,
+    end: usize,
+    masks: &mut [u32],
+    row: usize,
+) -> bool
     requires { ⌜ (start ≤ end) × (end ≤ length (now sheet)) × (row + 4 ≤ length (now masks)) ⌝ }
     ensures { λ r. ⌜ OnlyRow row (now (masks .entry)) (now (masks .exit)) × MasksRead (stretch (now (sheet .entry)) start end) (now (masks .exit)) row r ⌝ }
 {
@@ -59,7 +65,7 @@ pub fn read_masks(sheet: &[u8], start: usize, end: usize, masks: &mut [u32], row
 }
 
 // The line of an action, whose masks go into the table from this row on.
-pub fn act_line(
+pub(crate) fn act_line(
     sheet: &[u8],
     at: usize,
     line: usize,

@@ -15,7 +15,7 @@ use refusal::Refusal;
 use theory::faults;
 
 // The line with this key at this place, whatever its value is.
-pub fn line_at(sheet: &[u8], at: usize, line: usize, key: &[u8]) -> LineAnswer
+pub(crate) fn line_at(sheet: &[u8], at: usize, line: usize, key: &[u8]) -> LineAnswer
     requires { ⌜ at ≤ length (now sheet) ⌝ }
     ensures { λ r. ⌜ LineFound (now (key .entry)) (now (sheet .entry)) at line r ⌝ }
 {
@@ -38,7 +38,7 @@ pub fn line_at(sheet: &[u8], at: usize, line: usize, key: &[u8]) -> LineAnswer
 }
 
 // A line that says a number of so many decimal digits in a range: the version, a count, *more*.
-pub fn number_line(
+pub(crate) fn number_line(
     sheet: &[u8],
     at: usize,
     line: usize,
@@ -81,7 +81,7 @@ pub fn number_line(
 }
 
 // The start state.
-pub fn start_line(sheet: &[u8], at: usize, line: usize, fluents: usize) -> LineAnswer
+pub(crate) fn start_line(sheet: &[u8], at: usize, line: usize, fluents: usize) -> LineAnswer
     requires { ⌜ (at ≤ length (now sheet)) × (fluents ≤ fluentLimit) ⌝ }
     ensures { λ r. ⌜ LineRead (startForm fluents) (now (sheet .entry)) at line (λ c. c .number) r ⌝ }
 {

@@ -14,7 +14,7 @@ use rule::Checked;
 use rule::Kind;
 
 // A line that is a rule of this kind.
-pub fn rule_line(
+pub(crate) fn rule_line(
     sheet: &[u8],
     at: usize,
     line: usize,

@@ -9,7 +9,7 @@ ghost use Rattle.sheet.specs.Scan.{stretch, FirstLf, DigitOf, NumberAske
 use crate::Digits;
 
 // The key stands at this place.
-pub fn opens_with(sheet: &[u8], at: usize, key: &[u8]) -> bool
+pub(crate) fn opens_with(sheet: &[u8], at: usize, key: &[u8]) -> bool
     requires { ⌜ at ≤ length (now sheet) ⌝ }
     ensures { λ r. ⌜ (r ≡ true) ↔ (drop at (now (sheet .entry)) ≡ now (key .entry) ++ drop (at + length (now (key .entry))) (now (sheet .entry))) ⌝ }
 {
@@ -27,7 +27,7 @@ pub fn opens_with(sheet: &[u8], at: usize, key: &[u8]) -> bool
 }
 
 // Where the line ends: the first LF from this place on, or the sheet's end.
-pub fn find_lf(sheet: &[u8], from: usize) -> usize
+pub(crate) fn find_lf(sheet: &[u8], from: usize) -> usize
     requires { ⌜ from ≤ length (now sheet) ⌝ }
     ensures { λ r. ⌜ FirstLf (now (sheet .entry)) from r ⌝ }
 {
@@ -42,7 +42,7 @@ pub fn find_lf(sheet: &[u8], from: usize) -> usize
 }
 
 // The hex digit that a byte is, 16 where it is none. An upper-case letter is none.
-pub fn digit_of(byte: u8) -> u32
+pub(crate) fn digit_of(byte: u8) -> u32
     ensures { λ r. ⌜ DigitOf byte r ⌝ }
 {
     match byte {
@@ -53,7 +53,7 @@ pub fn digit_of(byte: u8) -> u32
 }
 
 // The number that so many digits from this place on are.
-pub fn number_at(sheet: &[u8], at: usize, width: usize, base: u32) -> Digits
+pub(crate) fn number_at(sheet: &[u8], at: usize, width: usize, base: u32) -> Digits
     requires { ⌜ NumberAsked (now sheet) at width base ⌝ }
     ensures { λ r. ⌜ DigitsOf base width (take width (drop at (now (sheet .entry)))) r ⌝ }
 {
@@ -71,7 +71,7 @@ pub fn number_at(sheet: &[u8], at: usize, width: usize, base: u32) -> Digits
 }
 
 // The number that a whole stretch is, if it has so many digits.
-pub fn number_in(sheet: &[u8], start: usize, end: usize, width: usize, base: u32) -> Digits
+pub(crate) fn number_in(sheet: &[u8], start: usize, end: usize, width: usize, base: u32) -> Digits
     requires { ⌜ (start ≤ end) × (end ≤ length (now sheet)) × (0 < base) × (base ≤ 16) × (base ^ width ≤ 2 ^ 32) ⌝ }
     ensures { λ r. ⌜ DigitsOf base width (stretch (now (sheet .entry)) start end) r ⌝ }
 {

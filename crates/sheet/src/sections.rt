@@ -21,7 +21,7 @@ use rule::Kind;
 use theory::STRIDE;
 
 // The version, the two counts and the start state.
-pub fn read_head(sheet: &[u8]) -> HeadAnswer
+pub(crate) fn read_head(sheet: &[u8]) -> HeadAnswer
     ensures { λ r. ⌜ HeadFound (now (sheet .entry)) r ⌝ }
 {
     match line::number_line(sheet, 0, 1, b"sheet=", 1, 1, 1) {
@@ -56,7 +56,7 @@ pub fn read_head(sheet: &[u8]) -> HeadAnswer
 }
 
 // The lines of the actions below this line; their masks go to the front of the table.
-pub fn read_acts(
+pub(crate) fn read_acts(
     sheet: &[u8],
     above: Cursor,
     fluents: usize,
@@ -85,7 +85,13 @@ pub fn read_acts(
 }
 
 // The last line, below this one, and that nothing follows it.
-pub fn read_more(sheet: &[u8], head: Head, log: Cursor, ask: Cursor, run: Cursor) -> SheetAnswer
+pub(crate) fn read_more(
+    sheet: &[u8],
+    head: Head,
+    log: Cursor,
+    ask: Cursor,
+    run: Cursor,
+) -> SheetAnswer
     requires { ⌜ (run .end < length (now sheet)) × (run .line ≤ 71) ⌝ }
     ensures { λ r. ⌜ MoreFound (now (sheet .entry)) head log ask run r ⌝ }
 {
@@ -126,7 +132,7 @@ pub fn read_more(sheet: &[u8], head: Head, log: Cursor, ask: Cursor, run: Cursor
 }
 
 // The last four lines below this line, and that nothing follows them; the steps of the log go to its front.
-pub fn read_last(sheet: &[u8], head: Head, above: Cursor, log: &mut [u8]) -> SheetAnswer
+pub(crate) fn read_last(sheet: &[u8], head: Head, above: Cursor, log: &mut [u8]) -> SheetAnswer
     requires { ⌜ LastAsked (now sheet) head above (now log) ⌝ }
     ensures { λ r. ⌜ LastFound (now (sheet .entry)) head above (now (log .entry)) (now (log .exit)) r ⌝ }
 {
@@ -163,7 +169,7 @@ pub fn read_last(sheet: &[u8], head: Head, above: Cursor, log: &mut [u8]) -> She
 }
 
 // The lines from the top: the first faulty one, or what they say.
-pub fn read_lines(sheet: &[u8], masks: &mut [u32; 256], log: &mut [u8; 64]) -> SheetAnswer
+pub(crate) fn read_lines(sheet: &[u8], masks: &mut [u32; 256], log: &mut [u8; 64]) -> SheetAnswer
     ensures { λ r. ⌜ LinesFound (now (sheet .entry)) (now (masks .entry)) (now (log .entry)) r (now (masks .exit)) (now (log .exit)) ⌝ }
 {
     match read_head(sheet) {

@@ -13,12 +13,12 @@ use crate::Fault;
 use crate::LineAnswer;
 use crate::line;
 use crate::scan;
+use positions::PositionSet;
 use refusal::Refusal;
-use theory::LOG_LIMIT;
 use theory::faults;
 
 // Reads the steps of a stretch into the log: how many they are, if they are written as they should be and not too many.
-pub fn read_steps(sheet: &[u8], start: usize, end: usize, log: &mut [u8]) -> Digits
+pub(crate) fn read_steps(sheet: &[u8], start: usize, end: usize, log: &mut [u8]) -> Digits
     requires { ⌜ (start ≤ end) × (end ≤ length (now sheet)) × (logLimit ≤ length (now log)) ⌝ }
     ensures { λ r. ⌜ StepsRead (stretch (now (sheet .entry)) start end) (now (log .entry)) (now (log .exit)) r ⌝ }
 {
@@ -27,7 +27,7 @@ pub fn read_steps(sheet: &[u8], start: usize, end: usize, log: &mut [u8]) -> Dig
     if 2 * count != size {
         return Digits::Other;
     }
-    if LOG_LIMIT < count {
+    if PositionSet::LOG_LIMIT < count {
         return Digits::Other;
     }
     let mut i = 0;
@@ -46,7 +46,13 @@ pub fn read_steps(sheet: &[u8], start: usize, end: usize, log: &mut [u8]) -> Dig
 }
 
 // The log line, whose steps go to the front of the log. Its number is how many they are.
-pub fn log_line(sheet: &[u8], at: usize, line: usize, actions: usize, log: &mut [u8]) -> LineAnswer
+pub(crate) fn log_line(
+    sheet: &[u8],
+    at: usize,
+    line: usize,
+    actions: usize,
+    log: &mut [u8],
+) -> LineAnswer
     requires { ⌜ (at ≤ length (now sheet)) × (actions ≤ actionLimit) × (logLimit ≤ length (now log)) ⌝ }
     ensures { λ r. ⌜ LineRead (logForm actions) (now (sheet .entry)) at line (λ c. take (c .number) (now (log .exit))) r × LogKept (now (log .entry)) (now (log .exit)) r ⌝ }
 {

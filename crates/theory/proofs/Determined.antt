@@ -15,12 +15,12 @@ use Rattle.meaning.proofs.Refusal.{refused-unique, refused-not-accepted}
 use Rattle.theory.specs.Answer.{numberGiven, stateGiven, StateAnswered}
 use Rattle.theory.specs.Check.{Settled}
 use Rattle.theory.specs.Union.{Union}
-use Rattle.theory.specs.Tables.{Describes, Noted, Shown}
+use Rattle.theory.specs.Tables.{Describes, Noted, Turned}
 use Rattle.theory.specs.declared.Check.{Check}
 use Rattle.theory.specs.declared.Check.the-variants.{Sound, Refused as Faulty}
 use Rattle.theory.specs.declared.StateAnswer.{StateAnswer}
 use Rattle.theory.specs.declared.StateAnswer.the-variants.{Refused, State}
-use Rattle.theory.proofs.Numbers.{one-number, some-number}
+use Rattle.refusal.proofs.Numbers.{one-number, some-number}
 
 -- an answer is its number and its state
 same-answer : (a b : StateAnswer) → numberGiven a ≡ numberGiven b → stateGiven a ≡ stateGiven b → a ≡ b
@@ -73,6 +73,6 @@ pub note-determined : (old new new′ : List ℕ) (a p : ℕ) (able : Bool) → 
 note-determined old new new′ a p able x y =
     same-table new new′ (x .room ∙ sym (y .room)) (λ b q. Iff·trans (x .bits b q) (Iff·symm (y .bits b q)))
 
-pub show-determined : (old new new′ : List ℕ) (state p : ℕ) → Shown old new state p → Shown old new′ state p → new ≡ new′
-show-determined old new new′ state p x y =
-    same-table new new′ (x .room ∙ sym (y .room)) (λ i q. Iff·trans (x .bits i q) (Iff·symm (y .bits i q)))
+pub turn-determined : (old new new′ : List ℕ) (changed places : ℕ) → Turned old new changed places → Turned old new′ changed places → new ≡ new′
+turn-determined old new new′ changed places x y =
+    same-table new new′ (x .room ∙ sym (y .room)) (λ i q. let e = x .bits i q ∙ sym (y .bits i q) in (λ h. sym e ∙ h, λ h. e ∙ h))

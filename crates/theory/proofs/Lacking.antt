@@ -30,7 +30,7 @@ some-on k {n} small more =
     (eq-or-lt-of-le (first-le k (on n)))
 
 -- nothing is left of a number after a shift: it has no bit on from there
-pub shifted-out : (n k i : ℕ) → n / 2 ^ k ≡ 0 → k ≤ i → on n i ≡ true → ⊥
+shifted-out : (n k i : ℕ) → n / 2 ^ k ≡ 0 → k ≤ i → on n i ≡ true → ⊥
 shifted-out n k i none far h =
     let back : i - k + k ≡ i = omega arith in
     off-on (on-none (i - k)) (sym (ap (λ (m : ℕ). on m (i - k)) none) ∙ on-shr n k (i - k) ∙ ap (on n) back ∙ h)

@@ -1,26 +1,24 @@
--- One word of a table has some bits more: a step that is noted, and a state that is shown at a position, fluent by fluent. Knows bits and lists alone.
-use mathlib.Core.Path.{_≡_, refl, sym, ap, subst⁻¹, _∙_}
+-- One word of a table has some bits more, or the other way: a step that is noted, and the fluents that change at a position, one by one. Knows bits and
+-- lists alone.
+use mathlib.Core.Path.{_≡_, refl, sym, ap, subst, subst⁻¹, _∙_}
 use mathlib.Core.Logic.{_↔_, _⊎_, inl, inr, ⊎-elim, ⊎-map, Iff·trans}
-use mathlib.Core.Bool.{true, false, false≢true, _&&_}
+use mathlib.Core.Bool.{Bool, true, false, false≢true, _&&_, xor, and-false}
 use mathlib.Core.List.{List}
 use Prim.Native.Nat.{ℕ, _+_, _-_, _*_, _/_, _%_, _^_, _≤_, _<_}
 use native.Mathlib.Decide.{ℕ-discrete}
-use native.Mathlib.Nat.{eq-or-lt-of-le, div-eq-of-lt, lt-of-lt-of-le}
-use lib.Pow.{pow-mono}
 use native.Mathlib.Omega.{arith}
-use borrow.Author.Tests.{leb-true, eqb-true, lt-ltb, le-leb, eq-eqb}
-use lib.Bits.{bitAnd, bitOr}
+use borrow.Author.Tests.{leb-true, ltb-true, eqb-true, lt-ltb, le-leb, eq-eqb}
+use lib.Bits.{bitOr, bitXor, xor-self, xor-zero-r}
 use lib.Dec.{ltb, leb, eqb}
 use lib.ListN.{length, getD, set, length-set}
 use lib.Seq.{getD-set-same, getD-set-other}
 use Rattle.laws.specs.Bit.{on}
-use Rattle.laws.proofs.On.{on-shr}
-use Rattle.laws.proofs.Bitwise.{on-and, on-or}
-use Rattle.laws.proofs.Shift.{on-shl, on-pow, on-one-shl}
-use Rattle.laws.proofs.Truth.{and-iff, or-iff}
-use Rattle.meaning.specs.Limits.{places}
-use Rattle.theory.proofs.Lacking.{shifted-out}
-use Rattle.theory.specs.Tables.{Noted, Shown}
+use Rattle.laws.proofs.On.{on-shr, on-none}
+use Rattle.laws.proofs.Bitwise.{on-or, on-xor}
+use Rattle.laws.proofs.Shift.{on-shl, on-one-shl, on-ones}
+use Rattle.laws.proofs.Truth.{same-truth, no-truth, and-iff, or-iff}
+use Rattle.meaning.specs.Limits.{places, logLimit, fluentLimit}
+use Rattle.theory.specs.Tables.{Noted, Turned}
 
 -- some bits more in one word of a table
 pub word-more : (old : List ℕ) (a word : ℕ) → a < length old → (b q : ℕ)
@@ -43,34 +41,6 @@ word-more old a word there b q = elim (ℕ-discrete b a) [
 pub position-iff : (p q : ℕ) → p < places → (on (1 * 2 ^ p % 2 ^ places) q ≡ true) ↔ (q ≡ p)
 position-iff p q h = rw (on-one-shl p places q h) (eqb-true q p, eq-eqb q p)
 
--- the lowest bit of a number, alone
-low-iff : (n j : ℕ) → (on (bitAnd n 1) j ≡ true) ↔ ((j ≡ 0) × (on n j ≡ true))
-low-iff n j =
-    rw (on-and, on-pow 0 j) (
-      λ h. let both = and-iff (on n j) (eqb j 0) .0 h in (eqb-true j 0 (both .1), both .0),
-      λ h. and-iff (on n j) (eqb j 0) .1 (h .1, eq-eqb j 0 (h .0)),
-    )
-
--- the word of one position, if a fluent is on
-pub fluent-iff : (state i p q : ℕ) → p < places
-    → (on (bitAnd (state / 2 ^ i) 1 * 2 ^ p % 2 ^ places) q ≡ true) ↔ ((q ≡ p) × (on state i ≡ true))
-fluent-iff state i p q h = rw (on-shl (bitAnd (state / 2 ^ i) 1) p places q) (
-  λ e.
-      let outer = and-iff (ltb q places && leb p q) (on (bitAnd (state / 2 ^ i) 1) (q - p)) .0 e in
-      let order : p ≤ q = leb-true p q (and-iff (ltb q places) (leb p q) .0 (outer .0) .1) in
-      let low = low-iff (state / 2 ^ i) (q - p) .0 (outer .1) in
-      let same : q - p ≡ 0 = low .0 in
-      let at : q - p + i ≡ i = omega arith in
-      (omega arith, sym (ap (on state) at) ∙ sym (on-shr state i (q - p)) ∙ low .1),
-  λ e.
-      let same : q ≡ p = e .0 in
-      let at : q - p + i ≡ i = omega arith in
-      and-iff (ltb q places && leb p q) (on (bitAnd (state / 2 ^ i) 1) (q - p)) .1 (
-        and-iff (ltb q places) (leb p q) .1 (lt-ltb q places (omega arith), le-leb p q (omega arith)),
-        low-iff (state / 2 ^ i) (q - p) .1 (omega arith, on-shr state i (q - p) ∙ ap (on state) at ∙ e .1),
-      ),
-)
-
 -- a step that was possible is noted, and one that was not leaves the table
 pub noted : (old : List ℕ) (a p : ℕ) → a < length old → p < places → Noted old (set old a (bitOr (getD old a 0) (1 * 2 ^ p % 2 ^ places))) a p true
 noted old a p there h =
@@ -84,48 +54,74 @@ noted old a p there h =
 pub not-noted : (old : List ℕ) (a p : ℕ) → Noted old old a p false
 not-noted old a p = record { room = refl; bits = λ b q. (inl, ⊎-elim (λ l. l) (λ r. absurd (false≢true (r .0)))) }
 
--- the first n fluents of a state are shown at a position
-pub record ShownSome (old new : List ℕ) (state p n : ℕ) : Type 0 where
-  pub room : length new ≡ length old
-  pub bits : (i q : ℕ) → (on (getD new i 0) q ≡ true) ↔ ((on (getD old i 0) q ≡ true) ⊎ ((i < n) × (q ≡ p) × (on state i ≡ true)))
+-- the positions from p up to n: `!0 >> (63 - n) >> p << p`
+pub from-iff : (p n q : ℕ) → p ≤ n → n < places → on ((2 ^ places - 1) / 2 ^ (logLimit - n) / 2 ^ p * 2 ^ p % 2 ^ places) q ≡ (leb p q && leb q n)
+from-iff p n q order short =
+    rw (on-shl ((2 ^ places - 1) / 2 ^ (logLimit - n) / 2 ^ p) p places q, on-shr, on-shr, on-ones places)
+    (same-truth (ltb q places && leb p q && ltb (q - p + p + (logLimit - n)) places) (leb p q && leb q n) onward back)
+  where
+    onward : (ltb q places && leb p q && ltb (q - p + p + (logLimit - n)) places) ≡ true → (leb p q && leb q n) ≡ true
+    onward e =
+        let outer = and-iff (ltb q places && leb p q) (ltb (q - p + p + (logLimit - n)) places) .0 e in
+        let above = and-iff (ltb q places) (leb p q) .0 (outer .0) .1 in
+        and-iff (leb p q) (leb q n) .1 (above, le-leb q n (omega (arith, leb-true p q above, ltb-true (q - p + p + (logLimit - n)) places (outer .1))))
 
-pub show-none : (old : List ℕ) (state p : ℕ) → ShownSome old old state p 0
-show-none old state p = record { room = refl; bits = λ i q. (inl, ⊎-elim (λ l. l) (λ r. absurd (omega (arith, r .0)))) }
+    back : (leb p q && leb q n) ≡ true → (ltb q places && leb p q && ltb (q - p + p + (logLimit - n)) places) ≡ true
+    back e =
+        let both = and-iff (leb p q) (leb q n) .0 e in
+        let above : p ≤ q = leb-true p q (both .0) in
+        let below : q ≤ n = leb-true q n (both .1) in
+        and-iff (ltb q places && leb p q) (ltb (q - p + p + (logLimit - n)) places) .1 (
+          and-iff (ltb q places) (leb p q) .1 (lt-ltb q places (omega arith), both .0),
+          lt-ltb (q - p + p + (logLimit - n)) places (omega arith),
+        )
 
-pub show-more : {old new : List ℕ} {state p n : ℕ} → n < length old → p < places → ShownSome old new state p n
-    → ShownSome old (set new n (bitOr (getD new n 0) (bitAnd (state / 2 ^ n) 1 * 2 ^ p % 2 ^ places))) state p (n + 1)
-show-more {old} {new} {state} {p} {n} there h s =
+-- no fluent is turned
+with-none : (b : Bool) → xor b false ≡ b
+unfolding xor
+with-none true = refl
+with-none false = refl
+
+pub turn-none : (old : List ℕ) (changed at : ℕ) → Turned old old (bitXor changed changed) at
+turn-none old changed at = record { room = refl; bits = λ i q. rw (xor-self changed, on-none, and-false) (sym (with-none (on (getD old i 0) q))) }
+
+-- one fluent more is turned
+one-turned : (o x c r : Bool) → xor (xor o (x && xor c r)) x ≡ xor o (x && xor c (xor r true))
+unfolding xor
+one-turned true false c r = refl
+one-turned false false c r = refl
+one-turned true true true true = refl
+one-turned true true true false = refl
+one-turned true true false true = refl
+one-turned true true false false = refl
+one-turned false true true true = refl
+one-turned false true true false = refl
+one-turned false true false true = refl
+one-turned false true false false = refl
+
+pub turn-more : {old new : List ℕ} (changed rest : ℕ) {at i : ℕ} → i < length old → i < fluentLimit → Turned old new (bitXor changed rest) at
+    → Turned old (set new i (bitXor (getD new i 0) at)) (bitXor changed (bitXor rest (1 * 2 ^ i % 2 ^ fluentLimit))) at
+turn-more {old} {new} changed rest {at} {i} there low t =
     record {
-      room = length-set new n _ ∙ s .room;
-      bits = λ i q.
-          Iff·trans (word-more new n (bitAnd (state / 2 ^ n) 1 * 2 ^ p % 2 ^ places) (omega (arith, s .room)) i q) (
-            ⊎-elim
-                (λ l. ⊎-map (λ o. o) (λ r. (omega (arith, r .0), r .1, r .2)) (s .bits i q .0 l))
-                (λ r. let lit = fluent-iff state n p q h .0 (r .1) in inr (omega (arith, r .0), lit .0, ap (on state) (r .0) ∙ lit .1)),
-            ⊎-elim
-                (λ o. inl (s .bits i q .1 (inl o)))
-                (λ r. ⊎-elim
-                (λ e. inr (e, fluent-iff state n p q h .1 (r .1, sym (ap (on state) e) ∙ r .2)))
-                (λ l. inl (s .bits i q .1 (inr (l, r .1, r .2))))
-                (eq-or-lt-of-le (omega (arith, r .0)))),
-          );
-    }
-
--- the fluents left are none
-pub show-all : {old new : List ℕ} {state p n : ℕ} → state / 2 ^ n ≡ 0 → ShownSome old new state p n → Shown old new state p
-show-all {state = state} {n = n} none s =
-    record {
-      room = s .room;
-      bits = λ i q. Iff·trans (s .bits i q) (⊎-map (λ o. o) (λ r. (r .1, r .2)), ⊎-map (λ o. o) (λ r. (passed i (r .1), r .0, r .1)));
+      room = length-set new i _ ∙ t .room;
+      bits = λ j q.
+          rw (on-xor changed (bitXor rest (1 * 2 ^ i % 2 ^ fluentLimit)) j, on-xor rest (1 * 2 ^ i % 2 ^ fluentLimit) j, on-one-shl i fluentLimit j low)
+          (elim (ℕ-discrete j i) [
+            | no other ↦
+                rw (getD-set-other new i j (bitXor (getD new i 0) at) 0 other, no-truth (eqb j i) (λ e. other (eqb-true j i e)), with-none (on rest j))
+                (before j q)
+            | yes e ↦
+                subst⁻¹
+                (λ (x : ℕ). on (getD (set new i (bitXor (getD new i 0) at)) x 0) q ≡ xor (on (getD old x 0) q) (on at q && xor (on changed x) (xor (on rest x) (eqb x i))))
+                e
+                (rw (getD-set-same new i (bitXor (getD new i 0) at) 0 (omega (arith, t .room)), on-xor (getD new i 0) at q, before i q, eq-eqb i i refl)
+                (one-turned (on (getD old i 0) q) (on at q) (on changed i) (on rest i)))
+          ]);
     }
   where
-    passed : (i : ℕ) → on state i ≡ true → i < n
-    passed i h =
-        let near : ¬ (n ≤ i) = λ far. shifted-out state n i none far h in
-        omega arith
+    before : (j q : ℕ) → on (getD new j 0) q ≡ xor (on (getD old j 0) q) (on at q && xor (on changed j) (on rest j))
+    before j q = t .bits j q ∙ ap (λ (c : Bool). xor (on (getD old j 0) q) (on at q && c)) (on-xor changed rest j)
 
--- there is room for a fluent that is left
-pub some-left : (k : ℕ) {state n : ℕ} → state < 2 ^ k → (state / 2 ^ n ≡ 0 → ⊥) → n < k
-some-left k {state} {n} word more =
-    let near : ¬ (k ≤ n) = λ far. more (div-eq-of-lt (lt-of-lt-of-le word (pow-mono far))) in
-    omega arith
+-- every fluent that changed is turned
+pub turn-all : {old new : List ℕ} {changed rest at : ℕ} → rest ≡ 0 → Turned old new (bitXor changed rest) at → Turned old new changed at
+turn-all {old} {new} {changed} {rest} {at} none t = subst (λ (n : ℕ). Turned old new n at) (ap (bitXor changed) none ∙ xor-zero-r changed) t

@@ -1,31 +1,35 @@
 -- The log transposed, table by table: one step or one position more, and the whole. Knows the meaning of a step and what a mark in a table is; no code.
 use mathlib.Core.Path.{_≡_, refl, sym, ap, subst, subst⁻¹, subst₂, _∙_}
 use mathlib.Core.Logic.{_↔_, _⊎_, inl, inr, ⊎-elim, Iff·trans}
-use mathlib.Core.Bool.{Bool, true}
+use mathlib.Core.Bool.{Bool, true, false, _&&_, xor}
 use mathlib.Core.List.{List}
 use mathlib.Core.Option.{some}
-use Prim.Native.Nat.{ℕ, zero, suc, _+_, _<_}
+use Prim.Native.Nat.{ℕ, zero, suc, _+_, _≤_, _<_, min}
 use native.Mathlib.Nat.{eq-or-lt-of-le}
 use native.Mathlib.Omega.{arith}
+use borrow.Author.Tests.{leb-true, leb-false, le-leb}
+use lib.Bits.{bitXor}
+use lib.Dec.{leb, leb·zero}
 use lib.ListN.{length, getD, replicate, length-replicate}
 use Rattle.laws.specs.Bit.{on}
 use Rattle.laws.proofs.On.{on-none}
-use Rattle.laws.proofs.Truth.{off-on}
+use Rattle.laws.proofs.Bitwise.{on-xor}
+use Rattle.laws.proofs.Truth.{off-on, no-truth, true-or-false, and-iff}
 use Rattle.meaning.specs.Limits.{fluentLimit, actionLimit}
 use Rattle.meaning.specs.Theory.{Possible, World, stateAt, stepAt}
 use Rattle.meaning.proofs.Theory.{getElem-getD, getElem-within}
 use Rattle.theory.specs.World.{worldOf}
-use Rattle.theory.specs.Tables.{Describes, Noted, Shown}
+use Rattle.theory.specs.Tables.{Describes, Noted, Turned}
 
 -- the table of actions, of the steps before position n
 pub record TakenBelow (w : World) (done : List ℕ) (n : ℕ) : Type 0 where
   pub room : length done ≡ actionLimit
   pub bits : (a q : ℕ) → (on (getD done a 0) q ≡ true) ↔ ((q < n) × (stepAt w q ≡ some a) × Possible (w .masks a) (stateAt w q))
 
--- the table of fluents, of the positions before n
-pub record ShownBelow (w : World) (lit : List ℕ) (n : ℕ) : Type 0 where
+-- the table of fluents, of the positions up to n: behind it the state at n stands on, up to the log's end
+pub record ShownTo (w : World) (lit : List ℕ) (n : ℕ) : Type 0 where
   pub room : length lit ≡ fluentLimit
-  pub bits : (i q : ℕ) → (on (getD lit i 0) q ≡ true) ↔ ((q < n) × (on (stateAt w q) i ≡ true))
+  pub bits : (i q : ℕ) → on (getD lit i 0) q ≡ (leb q (length (w .log)) && on (stateAt w (min q n)) i)
 
 -- an empty table
 zeros : (n a : ℕ) → _≡_ {A = ℕ} (getD (replicate n 0) a 0) 0
@@ -39,10 +43,6 @@ blank n a q h = off-on (on-none q) (sym (ap (λ (x : ℕ). on x q) (zeros n a)) 
 pub taken-none : (w : World) → TakenBelow w (replicate actionLimit 0) 0
 taken-none w =
     record { room = length-replicate {A = ℕ} actionLimit 0; bits = λ a q. (λ h. absurd (blank actionLimit a q h), λ r. absurd (omega (arith, r .0))) }
-
-pub shown-none : (w : World) → ShownBelow w (replicate fluentLimit 0) 0
-shown-none w =
-    record { room = length-replicate {A = ℕ} fluentLimit 0; bits = λ i q. (λ h. absurd (blank fluentLimit i q h), λ r. absurd (omega (arith, r .0))) }
 
 -- the step at position p
 pub taken-more : (w : World) {old new : List ℕ} {p state : ℕ} {able : Bool} → p < length (w .log) → state ≡ stateAt w p
@@ -78,34 +78,90 @@ taken-more w {old} {new} {p} {state} {able} within now possible note t =
         (λ l. inl (t .bits a q .1 (l, r .1, r .2)))
         (eq-or-lt-of-le (omega (arith, r .0)))
 
--- the state at position p
-pub shown-more : (w : World) {old new : List ℕ} {p state : ℕ} → state ≡ stateAt w p → Shown old new state p → ShownBelow w old p
-    → ShownBelow w new (p + 1)
-shown-more w {old} {new} {p} {state} e show s =
-    record { room = show .room ∙ s .room; bits = λ i q. Iff·trans (show .bits i q) (onward i q, back i q) }
-  where
-    onward : (i q : ℕ) → (on (getD old i 0) q ≡ true) ⊎ ((q ≡ p) × (on state i ≡ true)) → (q < p + 1) × (on (stateAt w q) i ≡ true)
-    onward i q =
-        ⊎-elim
-        (λ o. let r = s .bits i q .0 o in (omega (arith, r .0), r .1))
-        (λ r. (omega (arith, r .0), ap (λ (x : ℕ). on (stateAt w x) i) (r .0) ∙ sym (ap (λ (x : ℕ). on x i) e) ∙ r .1))
+-- the start state stands from position 0 on
+alone : (l s : Bool) → xor false (true && l && s) ≡ (l && s)
+unfolding xor
+alone true true = refl
+alone true false = refl
+alone false s = refl
 
-    back : (i q : ℕ) → (q < p + 1) × (on (stateAt w q) i ≡ true) → (on (getD old i 0) q ≡ true) ⊎ ((q ≡ p) × (on state i ≡ true))
-    back i q r =
-        ⊎-elim
-        (λ f. inr (f, ap (λ (x : ℕ). on x i) e ∙ sym (ap (λ (x : ℕ). on (stateAt w x) i) f) ∙ r .1))
-        (λ l. inl (s .bits i q .1 (l, r .1)))
-        (eq-or-lt-of-le (omega (arith, r .0)))
+pub shown-start : (w : World) {new : List ℕ} {start at : ℕ} → start ≡ stateAt w 0 → ((q : ℕ) → on at q ≡ (leb 0 q && leb q (length (w .log))))
+    → Turned (replicate fluentLimit 0) new start at → ShownTo w new 0
+shown-start w {new} {start} {at} e from t =
+    record {
+      room = t .room ∙ length-replicate {A = ℕ} fluentLimit 0;
+      bits = λ i q.
+          let first : min q 0 ≡ 0 = omega arith in
+          t .bits i q
+          ∙ rw (from q, leb·zero, first, ← e, no-truth (on (getD (replicate fluentLimit 0) i 0) q) (blank fluentLimit i q))
+          (alone (leb q (length (w .log))) (on start i));
+    }
+
+-- from position p + 1 on, what changed is the other way
+stays : (a l x : Bool) → xor a (false && l && x) ≡ a
+unfolding xor
+stays true l x = refl
+stays false l x = refl
+
+turns : (l s n : Bool) → xor (l && s) (true && l && xor s n) ≡ (l && n)
+unfolding xor
+turns false s n = refl
+turns true true true = refl
+turns true true false = refl
+turns true false true = refl
+turns true false false = refl
+
+pub shown-more : (w : World) {old new : List ℕ} {p state next at : ℕ} → state ≡ stateAt w p → next ≡ stateAt w (p + 1)
+    → ((q : ℕ) → on at q ≡ (leb (p + 1) q && leb q (length (w .log))))
+    → Turned old new (bitXor state next) at → ShownTo w old p → ShownTo w new (p + 1)
+shown-more w {old} {new} {p} {state} {next} {at} e f from t s =
+    record {
+      room = t .room ∙ s .room;
+      bits = λ i q.
+          t .bits i q
+          ∙ rw (s .bits i q, on-xor state next i, from q) (⊎-elim (behind i q) (before i q) (true-or-false (leb (p + 1) q)));
+    }
+  where
+    end : ℕ
+    end = length (w .log)
+
+    before : (i q : ℕ) → leb (p + 1) q ≡ false
+        → xor (leb q end && on (stateAt w (min q p)) i) (leb (p + 1) q && leb q end && xor (on state i) (on next i)) ≡ (leb q end && on (stateAt w (min q (p + 1))) i)
+    before i q h =
+        let low : q < p + 1 = leb-false (p + 1) q h in
+        let here : min q p ≡ q = omega arith in
+        let still : min q (p + 1) ≡ q = omega arith in
+        rw (here, still, h) (stays (leb q end && on (stateAt w q) i) (leb q end) (xor (on state i) (on next i)))
+
+    behind : (i q : ℕ) → leb (p + 1) q ≡ true
+        → xor (leb q end && on (stateAt w (min q p)) i) (leb (p + 1) q && leb q end && xor (on state i) (on next i)) ≡ (leb q end && on (stateAt w (min q (p + 1))) i)
+    behind i q h =
+        let high : p + 1 ≤ q = leb-true (p + 1) q h in
+        let here : min q p ≡ p = omega arith in
+        let then : min q (p + 1) ≡ p + 1 = omega arith in
+        rw (here, then, h, ← e, ← f) (turns (leb q end) (on state i) (on next i))
 
 -- the whole log, and its last position
-pub describes : (w : World) {done lit : List ℕ} {p : ℕ} → p ≡ length (w .log) → TakenBelow w done p → ShownBelow w lit (p + 1) → Describes w done lit
-describes w ends t s =
+pub describes : (w : World) {done lit : List ℕ} {n : ℕ} → n ≡ length (w .log) → TakenBelow w done n → ShownTo w lit n → Describes w done lit
+describes w {done} {lit} {n} ends t s =
     record {
       actionsRoom = t .room;
       fluentsRoom = s .room;
       taken = λ a p. Iff·trans (t .bits a p) (λ r. (r .1, r .2), λ r. (omega (arith, getElem-within (w .log) p a (r .0)), r .0, r .1));
-      shown = λ i p. Iff·trans (s .bits i p) (λ r. (omega (arith, r .0), r .1), λ r. (omega (arith, r .0), r .1));
+      shown = λ i p. (onward i p, back i p);
     }
+  where
+    stood : (i p : ℕ) → p ≤ length (w .log) → on (stateAt w (min p n)) i ≡ on (stateAt w p) i
+    stood i p h = let here : min p n ≡ p = omega (arith, ends) in rw here
+
+    onward : (i p : ℕ) → on (getD lit i 0) p ≡ true → (p ≤ length (w .log)) × (on (stateAt w p) i ≡ true)
+    onward i p h =
+        let both = and-iff (leb p (length (w .log))) (on (stateAt w (min p n)) i) .0 (sym (s .bits i p) ∙ h) in
+        let within = leb-true p (length (w .log)) (both .0) in
+        (within, sym (stood i p within) ∙ both .1)
+
+    back : (i p : ℕ) → (p ≤ length (w .log)) × (on (stateAt w p) i ≡ true) → on (getD lit i 0) p ≡ true
+    back i p r = s .bits i p ∙ and-iff (leb p (length (w .log))) (on (stateAt w (min p n)) i) .1 (le-leb p (length (w .log)) (r .0), stood i p (r .0) ∙ r .1)
 
 -- no table depends on the counts
 pub recount : (fluents actions fluents′ actions′ start : ℕ) (masks log : List ℕ) {done lit : List ℕ}

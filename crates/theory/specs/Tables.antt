@@ -1,7 +1,7 @@
 -- The log, transposed: for each action the positions at which it was taken, and for each fluent the positions at which it is on. A position is a bit.
 use mathlib.Core.Path.{_≡_}
 use mathlib.Core.Logic.{_⊎_, _↔_}
-use mathlib.Core.Bool.{Bool, true}
+use mathlib.Core.Bool.{Bool, true, _&&_, xor}
 use mathlib.Core.List.{List}
 use mathlib.Core.Option.{some}
 use Prim.Native.Nat.{ℕ, _≤_}
@@ -25,8 +25,7 @@ pub record Noted (old new : List ℕ) (a p : ℕ) (able : Bool) : Type 0 where
   pub bits : (b q : ℕ)
       → (on (getD new b 0) q ≡ true) ↔ ((on (getD old b 0) q ≡ true) ⊎ ((able ≡ true) × (b ≡ a) × (q ≡ p)))
 
--- one position more in the table of fluents: at position p the state was this
-pub record Shown (old new : List ℕ) (state p : ℕ) : Type 0 where
+-- each fluent that changed is the other way at these positions
+pub record Turned (old new : List ℕ) (changed places : ℕ) : Type 0 where
   pub room : length new ≡ length old
-  pub bits : (i q : ℕ)
-      → (on (getD new i 0) q ≡ true) ↔ ((on (getD old i 0) q ≡ true) ⊎ ((q ≡ p) × (on state i ≡ true)))
+  pub bits : (i q : ℕ) → on (getD new i 0) q ≡ xor (on (getD old i 0) q) (on places q && on changed i)

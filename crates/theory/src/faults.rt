@@ -12,8 +12,8 @@ ghost use Rattle.theory.specs.Union.{Union};
 use crate::ACTION_LIMIT;
 use crate::Check;
 use crate::FLUENT_LIMIT;
-use crate::LOG_LIMIT;
 use crate::STRIDE;
+use positions::PositionSet;
 use refusal::Refusal;
 
 // A count is out of its range.
@@ -30,7 +30,7 @@ pub fn bad_counts(fluents: usize, actions: usize) -> bool
 }
 
 // All fluents that the masks name, in one mask.
-pub fn union(masks: &[u32]) -> u32
+fn union(masks: &[u32]) -> u32
     ensures { λ r. ⌜ Union (now (masks .entry)) (length (now (masks .entry))) r ⌝ }
 {
     let mut all = 0;
@@ -67,7 +67,7 @@ pub fn bad_masks(fluents: usize, start: u32, masks: &[u32]) -> bool
 pub fn bad_log(actions: usize, log: &[u8]) -> bool
     ensures { λ r. ⌜ (r ≡ true) ↔ BadLog actions (now (log .entry)) ⌝ }
 {
-    if LOG_LIMIT < log.len() {
+    if PositionSet::LOG_LIMIT < log.len() {
         return true;
     }
     let mut i = 0;
@@ -82,7 +82,7 @@ pub fn bad_log(actions: usize, log: &[u8]) -> bool
 }
 
 // The counts and the table's length, then what the masks name.
-pub fn check_theory(fluents: usize, actions: usize, start: u32, masks: &[u32]) -> Check
+fn check_theory(fluents: usize, actions: usize, start: u32, masks: &[u32]) -> Check
     ensures { λ r. ⌜ Settled (theoryRows fluents actions start (now (masks .entry))) r ⌝ }
 {
     if bad_counts(fluents, actions) {

@@ -14,8 +14,6 @@ pub const FLUENT_LIMIT: usize = 32;
 
 pub const ACTION_LIMIT: usize = 64;
 
-pub const LOG_LIMIT: usize = 63;
-
 pub const STRIDE: usize = 4;
 
 // What a check finds: the refusal with the smallest number, or none.

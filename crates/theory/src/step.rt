@@ -10,7 +10,7 @@ ghost use Rattle.theory.specs.World.{stride, masksOf, tableMasks};
 use crate::STRIDE;
 
 // Every need bit is on and every ban bit off.
-pub fn possible(need: u32, ban: u32, state: u32) -> bool
+fn possible(need: u32, ban: u32, state: u32) -> bool
     ensures { λ r. ⌜ ((put drop : ℕ) → (r ≡ true) ↔ Possible (masksOf need ban put drop) state) ⌝ }
 {
     let met = need & state;
@@ -19,7 +19,7 @@ pub fn possible(need: u32, ban: u32, state: u32) -> bool
 }
 
 // What put names is on, and of the rest what was on and drop does not name.
-pub fn after(put: u32, drop: u32, state: u32) -> u32
+fn after(put: u32, drop: u32, state: u32) -> u32
     ensures { λ r. ⌜ ((need ban : ℕ) → r ≡ Theory.after (masksOf need ban put drop) state) ⌝ }
 {
     let kept = state & !drop;
@@ -38,7 +38,7 @@ pub fn able(masks: &[u32], a: usize, state: u32) -> bool
 }
 
 // The state after action a of the table, possible or not.
-pub fn act(masks: &[u32], a: usize, state: u32) -> u32
+pub(crate) fn act(masks: &[u32], a: usize, state: u32) -> u32
     requires { ⌜ stride * a + stride ≤ length (now masks) ⌝ }
     ensures { λ r. ⌜ r ≡ Theory.after (tableMasks (now (masks .entry)) a) state ⌝ }
 {

@@ -27,7 +27,7 @@ fn read_as(text: &[u8], kind: Kind, fluents: usize, actions: usize, rest: &mut u
 }
 
 // Where the rest of the text begins, behind the rule that opens it.
-pub fn read(text: &[u8], kind: u8, fluents: usize, actions: usize, rest: &mut usize) -> u8
+pub(crate) fn read(text: &[u8], kind: u8, fluents: usize, actions: usize, rest: &mut usize) -> u8
     ensures { λ r. ⌜ RestExported kind (now (text .entry)) fluents actions r (now (rest .exit)) ⌝ }
 {
     match kind {
@@ -64,7 +64,7 @@ fn normal_as(
 }
 
 // The normal form, at the front of the output.
-pub fn normal(
+pub(crate) fn normal(
     text: &[u8],
     kind: u8,
     fluents: usize,

@@ -1,5 +1,5 @@
 -- `ask::reach` meets its contract: the refusal stands, or the evaluator's answer from one position is what the walk reaches.
-use mathlib.Core.Path.{refl, sym, subst}
+use mathlib.Core.Path.{refl, subst}
 use mathlib.Core.Logic.{inl, inr}
 use mathlib.Core.List.{List}
 use borrow.Author.Needs.{needs}
@@ -7,6 +7,7 @@ use denote.Ref.{now}
 use Rattle.meaning.specs.Rule.{walkKind}
 use Rattle.meaning.specs.Refusal.{Row, Accepted}
 use Rattle.theory.specs.Check.{Settled}
+use Rattle.rule.proofs.Widths.{ends-told}
 use Rattle.rule.proofs.Outcomes.{walk-no-job}
 use Rattle.ask.specs.Rows.{askRows}
 use Rattle.ask.proofs.Asking.{asked-readable, asked-short}
@@ -32,26 +33,22 @@ enum-known-r c = search needs
 enum-told : tie.Need-enum-told
 enum-told c = search needs
 
-mark-requires : tie.Need-mark-requires
-mark-requires c κs = asked-short (sound (c .before))
+slice-aggregate-fill-ends : tie.Need-slice-aggregate-fill-ends
+slice-aggregate-fill-ends c = search needs
+
+fill-ends-requires : tie.Need-fill-ends-requires
+fill-ends-requires c κs = search needs
 
 transpose-requires : tie.Need-transpose-requires
-transpose-requires c κs = asked-readable (sound (c .before .before .before .before))
+transpose-requires c κs = asked-readable (sound (c .before .before .before .before .before))
 
 at-requires : tie.Need-at-requires
 at-requires c κs = search needs
 
-slice-aggregate-walk : tie.Need-slice-aggregate-walk
-slice-aggregate-walk c = sym (c .before .before .before .before .before .mark .ensures .0)
-
-slice-aggregate-walk-2 : tie.Need-slice-aggregate-walk-2
-slice-aggregate-walk-2 c = sym (c .before .before .before .transpose .ensures 0 0 .actionsRoom)
-
-slice-aggregate-walk-3 : tie.Need-slice-aggregate-walk-3
-slice-aggregate-walk-3 c = sym (c .before .before .before .before .transpose .ensures 0 0 .fluentsRoom)
-
 walk-requires : tie.Need-walk-requires
-walk-requires c κs = walk-first (sound (c .before .before .before .before .before .before .before .before .before)) (c .before .before .before .before .before .before .before .mark .ensures .1)
+walk-requires c κs =
+    let fine = sound (c .before .before .before .before .before .before .before .before .before .before) in
+    walk-first fine (ends-told _ _ (asked-short fine) (c .before .before .before .before .before .before .before .before .fill-ends .ensures))
 
 word-requires : tie.Need-word-requires
 word-requires c κs = search needs
@@ -69,12 +66,12 @@ returns c =
 
 returns-2 : tie.Need-returns-2
 returns-2 c =
-    let start = c .before .before .before .before .before .before .before .before .before .before .before .before .before .before .before .before .before .before .before in
+    let start = c .before .before .before .before .before .before .before .before .before .before .before .before .before .before .before .before .before .before .before .before in
     let told = c .before .before .before .before .before .before .before .before .transpose .ensures (start .args .fluents) (start .args .actions) in
     let one = c .before .before .before .before .before .before .before .at in
     let found = c .before .before .before .walk in
     inr (
-    reach-right (sound (c .before .before .before .before .before .before .before .before .before .before .before .before .before)) told (one .result) (found .result) (one .ensures) (found .ensures) _ _ _
+    reach-right (sound (c .before .before .before .before .before .before .before .before .before .before .before .before .before .before)) told (one .result) (found .result) (one .ensures) (found .ensures) _ _ _
     (c .before .before .word .ensures)
     (c .before .count .ensures)
     (c .earliest .ensures)
@@ -87,12 +84,10 @@ reach-spec =
     check-requires
     enum-known-r
     enum-told
-    mark-requires
+    slice-aggregate-fill-ends
+    fill-ends-requires
     transpose-requires
     at-requires
-    slice-aggregate-walk
-    slice-aggregate-walk-2
-    slice-aggregate-walk-3
     walk-requires
     word-requires
     count-requires

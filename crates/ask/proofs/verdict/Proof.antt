@@ -8,6 +8,7 @@ use denote.Ref.{now}
 use Rattle.meaning.specs.Rule.{testKind}
 use Rattle.meaning.specs.Refusal.{Row, Accepted}
 use Rattle.theory.specs.Check.{Settled}
+use Rattle.rule.proofs.Widths.{ends-told}
 use Rattle.rule.proofs.Outcomes.{test-no-job}
 use Rattle.ask.specs.Rows.{askRows}
 use Rattle.ask.proofs.Asking.{asked-readable, asked-short}
@@ -33,37 +34,33 @@ enum-known-r c = search needs
 enum-told : tie.Need-enum-told
 enum-told c = search needs
 
-mark-requires : tie.Need-mark-requires
-mark-requires c κs = asked-short (sound (c .before))
+slice-aggregate-fill-ends : tie.Need-slice-aggregate-fill-ends
+slice-aggregate-fill-ends c = search needs
+
+fill-ends-requires : tie.Need-fill-ends-requires
+fill-ends-requires c κs = search needs
 
 transpose-requires : tie.Need-transpose-requires
-transpose-requires c κs = asked-readable (sound (c .before .before .before .before))
+transpose-requires c κs = asked-readable (sound (c .before .before .before .before .before))
 
 at-requires : tie.Need-at-requires
 at-requires c κs = search needs
 
-slice-aggregate-test : tie.Need-slice-aggregate-test
-slice-aggregate-test c = sym (c .before .before .before .before .before .mark .ensures .0)
-
-slice-aggregate-test-2 : tie.Need-slice-aggregate-test-2
-slice-aggregate-test-2 c = sym (c .before .before .before .transpose .ensures 0 0 .actionsRoom)
-
-slice-aggregate-test-3 : tie.Need-slice-aggregate-test-3
-slice-aggregate-test-3 c = sym (c .before .before .before .before .transpose .ensures 0 0 .fluentsRoom)
-
 test-requires : tie.Need-test-requires
-test-requires c κs = test-first (sound (c .before .before .before .before .before .before .before .before .before)) (c .before .before .before .before .before .before .before .mark .ensures .1)
+test-requires c κs =
+    let fine = sound (c .before .before .before .before .before .before .before .before .before .before) in
+    test-first fine (ends-told _ _ (asked-short fine) (c .before .before .before .before .before .before .before .before .fill-ends .ensures))
 
 has-requires : tie.Need-has-requires
 has-requires c κs = search needs
 
 returns : tie.Need-returns
 returns c =
-    let start = c .before .before .before .before .before .before .before .before .before .before .before .before .before .before .before .before .before .before in
+    let start = c .before .before .before .before .before .before .before .before .before .before .before .before .before .before .before .before .before .before .before in
     let told = c .before .before .before .before .before .before .before .transpose .ensures (start .args .fluents) (start .args .actions) in
     let one = c .before .before .before .before .before .before .at in
     let kept = c .before .before .test in
-    inr (verdict-right (sound (c .before .before .before .before .before .before .before .before .before .before .before .before)) told (one .result) (kept .result) (one .ensures) (kept .ensures) true (sym (c .if1 .taken) ∙ c .before .has .ensures))
+    inr (verdict-right (sound (c .before .before .before .before .before .before .before .before .before .before .before .before .before)) told (one .result) (kept .result) (one .ensures) (kept .ensures) true (sym (c .if1 .taken) ∙ c .before .has .ensures))
 
 returns-2 : tie.Need-returns-2
 returns-2 c =
@@ -72,11 +69,11 @@ returns-2 c =
 
 returns-3 : tie.Need-returns-3
 returns-3 c =
-    let start = c .before .before .before .before .before .before .before .before .before .before .before .before .before .before .before .before .before .before in
+    let start = c .before .before .before .before .before .before .before .before .before .before .before .before .before .before .before .before .before .before .before in
     let told = c .before .before .before .before .before .before .before .transpose .ensures (start .args .fluents) (start .args .actions) in
     let one = c .before .before .before .before .before .before .at in
     let kept = c .before .before .test in
-    inr (verdict-right (sound (c .before .before .before .before .before .before .before .before .before .before .before .before)) told (one .result) (kept .result) (one .ensures) (kept .ensures) false (sym (c .if1 .left) ∙ c .before .has .ensures))
+    inr (verdict-right (sound (c .before .before .before .before .before .before .before .before .before .before .before .before .before)) told (one .result) (kept .result) (one .ensures) (kept .ensures) false (sym (c .if1 .left) ∙ c .before .has .ensures))
 
 pub verdict-spec : {M : Type 1} → statement M
 verdict-spec =
@@ -85,12 +82,10 @@ verdict-spec =
     check-requires
     enum-known-r
     enum-told
-    mark-requires
+    slice-aggregate-fill-ends
+    fill-ends-requires
     transpose-requires
     at-requires
-    slice-aggregate-test
-    slice-aggregate-test-2
-    slice-aggregate-test-3
     test-requires
     has-requires
     returns

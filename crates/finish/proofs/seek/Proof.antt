@@ -1,10 +1,11 @@
 -- `finish::seek` meets its contract: the log goes to the trail, and what is found behind it to the output.
-use mathlib.Core.Path.{_≡_, sym, subst, _∙_}
+use mathlib.Core.Path.{_≡_, subst, _∙_}
 use Prim.Native.Nat.{_+_, _-_}
 use native.Mathlib.Omega.{arith}
 use denote.Ref.{now}
 use lib.ListN.{length, take, drop, length-take, length-drop}
 use Rattle.meaning.specs.Limits.{places}
+use Rattle.rule.proofs.Widths.{ends-told}
 use Rattle.finish.specs.declared.search.Found.{Found}
 use Rattle.finish.specs.declared.search.Found.the-variants.{At}
 use Rattle.finish.specs.Found.{FinishTold}
@@ -13,8 +14,11 @@ use borrow.Author.Needs.{needs}
 use Rattle.finish.proofs.seek.Statement.{statement}
 use Rattle.finish.proofs.seek.Tie as tie
 
-mark-requires : tie.Need-mark-requires
-mark-requires c κs = search needs
+slice-aggregate-fill-ends : tie.Need-slice-aggregate-fill-ends
+slice-aggregate-fill-ends c = search needs
+
+fill-ends-requires : tie.Need-fill-ends-requires
+fill-ends-requires c κs = search needs
 
 slice-aggregate-copy : tie.Need-slice-aggregate-copy
 slice-aggregate-copy c = search needs
@@ -23,17 +27,14 @@ copy-requires : tie.Need-copy-requires
 copy-requires c κs = search needs
 
 slice-aggregate-first : tie.Need-slice-aggregate-first
-slice-aggregate-first c = sym (c .before .before .before .before .mark .ensures .0)
-
-slice-aggregate-first-2 : tie.Need-slice-aggregate-first-2
-slice-aggregate-first-2 c = search needs
+slice-aggregate-first c = search needs
 
 -- the places that the answers look back to: where the log is copied, and the start
 abbrev copying : tie.After-first → tie.After-copy
 copying c = c .before .before .before .before
 
 abbrev start : tie.After-copy → tie.Start
-start c = c .before .before .before .before .before .before .before .before
+start c = c .before .before .before .before .before .before .before .before .before
 
 -- the trail's first places hold the log
 front : (c : tie.After-copy) → take (c .copy .result) (c .copy .last .1 .0) ≡ now (start c .args .log)
@@ -45,9 +46,9 @@ first-requires c κs =
     let s = start p in
     let a = s .args in
     let copy = p .copy in
-    let mark = p .before .before .mark in
-    ready-first (a .actions) (now (a .masks)) (now (a .log)) (now (a .job)) (mark .last .1 .0) (copy .last .1 .0) (a .more) (length (now (a .out)))
-    (copy .result) (s .pre) (mark .ensures .1) (copy .kept .1 .0) (copy .ensures .0) (front p)
+    let marked = p .before .before .before .fill-ends in
+    ready-first (a .actions) (now (a .masks)) (now (a .log)) (now (a .job)) (marked .last .1 .0) (copy .last .1 .0) (a .more) (length (now (a .out)))
+    (copy .result) (s .pre) (ends-told _ _ (s .pre .short) (marked .ensures)) (copy .kept .1 .0) (copy .ensures .0) (front p)
 
 enum-told : tie.Need-enum-told
 enum-told c = search needs
@@ -115,11 +116,11 @@ pub seek-spec : {M : Type 1} → statement M
 seek-spec =
     tie.close
     (tie.spec
-    mark-requires
+    slice-aggregate-fill-ends
+    fill-ends-requires
     slice-aggregate-copy
     copy-requires
     slice-aggregate-first
-    slice-aggregate-first-2
     first-requires
     enum-told
     enum-known-k

@@ -24,22 +24,25 @@ slice-aggregate-result c = search needs
 enum-known-facts : tie.Need-enum-known-facts
 enum-known-facts c = search needs
 
+cast-end : tie.Need-cast-end
+cast-end c = search needs
+
 sub-result : tie.Need-sub-result
 sub-result c =
-    let e = c .before .before .before .before .before in
+    let e = c .before .before .before .before .before .before in
     let kind = kindOf (e .args .kind) in
     let text = e .args .text .now in
-    let f = c .before .facts .given .0 .0 in
-    let fit = subst (CheckedAs false kind text (e .args .fluents) (e .args .actions)) (c .before .facts .given .1) (c .before .before .before .survey .ensures) in
+    let f = c .before .before .facts .given .0 .0 in
+    let fit = subst (CheckedAs false kind text (e .args .fluents) (e .args .actions)) (c .before .before .facts .given .1) (c .before .before .before .before .survey .ensures) in
     ends-inside kind text (e .args .fluents) (e .args .actions) f fit
 
 part-result-start : tie.Need-part-result-start
 part-result-start c =
-    let e = c .before .before .before .before .before in
+    let e = c .before .before .before .before .before .before in
     let kind = kindOf (e .args .kind) in
     let text = e .args .text .now in
-    let f = c .before .facts .given .0 .0 in
-    let fit = subst (CheckedAs false kind text (e .args .fluents) (e .args .actions)) (c .before .facts .given .1) (c .before .before .before .survey .ensures) in
+    let f = c .before .before .facts .given .0 .0 in
+    let fit = subst (CheckedAs false kind text (e .args .fluents) (e .args .actions)) (c .before .before .facts .given .1) (c .before .before .before .before .survey .ensures) in
     ends-inside kind text (e .args .fluents) (e .args .actions) f fit
 
 part-result-end : tie.Need-part-result-end
@@ -55,11 +58,11 @@ returns c =
 
 returns-2 : tie.Need-returns-2
 returns-2 c =
-    let e = c .before .before .before .before .before .before in
+    let e = c .before .before .before .before .before .before .before in
     let kind = kindOf (e .args .kind) in
     let text = e .args .text .now in
-    let f = c .before .before .facts .given .0 .0 in
-    let fit = subst (CheckedAs false kind text (e .args .fluents) (e .args .actions)) (c .before .before .facts .given .1) (c .before .before .before .before .survey .ensures) in
+    let f = c .before .before .before .facts .given .0 .0 in
+    let fit = subst (CheckedAs false kind text (e .args .fluents) (e .args .actions)) (c .before .before .before .facts .given .1) (c .before .before .before .before .before .survey .ensures) in
     handed-back kind text (e .args .fluents) (e .args .actions) f fit
 
 pub read-rule-spec : {M : Type 1} → statement M
@@ -71,6 +74,7 @@ read-rule-spec =
     number-requires
     slice-aggregate-result
     enum-known-facts
+    cast-end
     sub-result
     part-result-start
     part-result-end

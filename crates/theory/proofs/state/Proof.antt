@@ -8,10 +8,9 @@ use borrow.Author.Needs.{needs}
 use denote.Ref.{now}
 use lib.ListN.{length}
 use Rattle.meaning.specs.Refusal.{Row, _when_, Accepted}
-use Rattle.meaning.proofs.Refusal.{here, passes, accepts}
+use Rattle.meaning.proofs.Refusal.{here, passes, accepts, refused-first, refused-second, accepted-both}
 use Rattle.theory.specs.Rows.{worldRows}
 use Rattle.theory.specs.Check.{Settled}
-use Rattle.theory.proofs.Settle.{refused-first, refused-second, accepted-both}
 use Rattle.theory.proofs.Reading.{checked, readable}
 use Rattle.theory.proofs.state.Statement.{statement}
 use Rattle.theory.proofs.state.Tie as tie

@@ -109,7 +109,7 @@ here-at-requires t c κs = search needs
 
 here-test-requires : (t : ℕ) → here-lts.Need-test-requires (here-calls t) (here-at t) here.Post here-Inv-loop here-μ-loop
 here-test-requires t c κs =
-    let s = c .before .before .before .before .before .before .before .before .before in
+    let s = c .before .before .before .before .before .before in
     (omega (arith, s .pre .0), s .pre .1)
 
 here-join-requires : (t : ℕ) → here-lts.Need-join-requires (here-calls t) (here-at t) here.Post here-Inv-loop here-μ-loop
@@ -145,14 +145,14 @@ abbrev star-μ-loop : star-lts.MeasureT-loop
 star-μ-loop text ends at now back done lit sign held₀ held = places - countOf (wordOf held)
 
 star-shared-slice-read-sign : (t : ℕ) → star-lts.Need-shared-slice-read-sign (star-calls t) (star-at t) star.Post star-Inv-loop star-μ-loop
-star-shared-slice-read-sign t c = within (c .before .before .before .before .before .pre .1 .stands)
+star-shared-slice-read-sign t c = within (c .before .before .pre .1 .stands)
 
 star-add-part : (t : ℕ) → star-lts.Need-add-part (star-calls t) (star-at t) star.Post star-Inv-loop star-μ-loop
-star-add-part t c = omega (arith, within (c .before .before .before .before .before .before .pre .1 .stands), c .before .before .before .before .before .before .good .0 .0)
+star-add-part t c = omega (arith, within (c .before .before .before .pre .1 .stands), c .before .before .before .good .0 .0)
 
 star-star-requires : (t : ℕ) → star-lts.Need-star-requires (star-calls t) (star-at t) star.Post star-Inv-loop star-μ-loop
 star-star-requires t c κs =
-    let s = c .before .before .before .before .before .before in
+    let s = c .before .before .before in
     (omega (arith, s .pre .0, within (s .pre .1 .stands)), star-part (s .pre .1) (c .if1 .taken))
 
 star-returns : (t : ℕ) → star-lts.Need-returns (star-calls t) (star-at t) star.Post star-Inv-loop star-μ-loop
@@ -163,7 +163,7 @@ star-loop-holds t c = holding-start
 
 star-walk-requires : (t : ℕ) → star-lts.Need-walk-requires (star-calls t) (star-at t) star.Post star-Inv-loop star-μ-loop
 star-walk-requires t c κs =
-    let s = c .before .before .before .before .before .before .before in
+    let s = c .before .before .before .before in
     (omega (arith, s .pre .0), s .pre .1)
 
 star-within-requires : (t : ℕ) → star-lts.Need-within-requires (star-calls t) (star-at t) star.Post star-Inv-loop star-μ-loop
@@ -187,61 +187,61 @@ abbrev test-calls : ℕ → test-lts.Claims
 test-calls t = (row-reads.Asked, row-reads.Learnt, meet-reads.Asked, meet-reads.Learnt, test-below t, test.Post, without-reads.Asked, without-reads.Learnt, second-reads.Asked, second-reads.Learnt, up-to-reads.Asked, up-to-reads.Learnt, walk-below t, walk.Post)
 
 test-shared-slice-read-sign : (t : ℕ) → test-lts.Need-shared-slice-read-sign (test-calls t) (test-at t) test.Post
-test-shared-slice-read-sign t c = within (c .before .before .before .before .before .pre .1 .stands)
+test-shared-slice-read-sign t c = within (c .before .before .pre .1 .stands)
 
 test-add-part : (t : ℕ) → test-lts.Need-add-part (test-calls t) (test-at t) test.Post
-test-add-part t c = omega (arith, within (c .before .before .before .before .before .pre .1 .stands), c .before .before .before .before .before .good .0 .0)
+test-add-part t c = omega (arith, within (c .before .before .pre .1 .stands), c .before .before .good .0 .0)
 
 test-row-requires : (t : ℕ) → test-lts.Need-row-requires (test-calls t) (test-at t) test.Post
-test-row-requires t c κs = fluent-number (c .before .before .before .before .before .before .pre .1) (c .match .keys2)
+test-row-requires t c κs = fluent-number (c .before .before .before .before .pre .1) (c .before .match .keys2)
 
 test-meet-requires : (t : ℕ) → test-lts.Need-meet-requires (test-calls t) (test-at t) test.Post
 test-meet-requires t c κs = search needs
 
 test-test-requires : (t : ℕ) → test-lts.Need-test-requires (test-calls t) (test-at t) test.Post
 test-test-requires t c κs =
-    let s = c .before .before .before .before .before .before in
+    let s = c .before .before .before in
     (omega (arith, s .pre .0, within (s .pre .1 .stands)), neg-part (s .pre .1) (c .match .keys3))
 
 test-without-requires : (t : ℕ) → test-lts.Need-without-requires (test-calls t) (test-at t) test.Post
 test-without-requires t c κs = search needs
 
 test-second-requires : (t : ℕ) → test-lts.Need-second-requires (test-calls t) (test-at t) test.Post
-test-second-requires t c κs = both-second (c .before .before .before .before .before .before .pre .1) (c .match .keys4) .inside
+test-second-requires t c κs = both-second (c .before .before .before .before .pre .1) (c .before .match .keys4) .inside
 
 test-test-requires-2 : (t : ℕ) → test-lts.Need-test-requires-2 (test-calls t) (test-at t) test.Post
 test-test-requires-2 t c κs =
-    let s = c .before .before .before .before .before .before .before in
-    (omega (arith, s .pre .0, within (s .pre .1 .stands)), both-first (s .pre .1) (c .before .match .keys4))
+    let s = c .before .before .before .before .before in
+    (omega (arith, s .pre .0, within (s .pre .1 .stands)), both-first (s .pre .1) (c .before .before .match .keys4))
 
 test-test-requires-3 : (t : ℕ) → test-lts.Need-test-requires-3 (test-calls t) (test-at t) test.Post
 test-test-requires-3 t c κs =
-    let s = c .before .before .before .before .before .before .before .before in
-    let (after, here) = both-second (s .pre .1) (c .before .before .match .keys4) .there (c .before .second .result) (c .before .second .ensures) in
+    let s = c .before .before .before .before .before .before in
+    let (after, here) = both-second (s .pre .1) (c .before .before .before .match .keys4) .there (c .before .second .result) (c .before .second .ensures) in
     (omega (arith, s .pre .0, within (s .pre .1 .stands), after), here)
 
 test-second-requires-2 : (t : ℕ) → test-lts.Need-second-requires-2 (test-calls t) (test-at t) test.Post
 test-second-requires-2 t c κs =
-    let none = c .match .rest in
-    let sign = last-sign (c .before .before .before .before .before .before .pre .1) (none .0 .0 .0 .1) (none .0 .0 .1) (none .0 .1) (none .1) in
-    diamond-second (c .before .before .before .before .before .before .pre .1) sign .inside
+    let none = c .before .match .rest in
+    let sign = last-sign (c .before .before .before .before .pre .1) (none .0 .0 .0 .1) (none .0 .0 .1) (none .0 .1) (none .1) in
+    diamond-second (c .before .before .before .before .pre .1) sign .inside
 
 test-up-to-requires : (t : ℕ) → test-lts.Need-up-to-requires (test-calls t) (test-at t) test.Post
 test-up-to-requires t c κs = search needs
 
 test-test-requires-4 : (t : ℕ) → test-lts.Need-test-requires-4 (test-calls t) (test-at t) test.Post
 test-test-requires-4 t c κs =
-    let none = c .before .before .match .rest in
-    let sign = last-sign (c .before .before .before .before .before .before .before .before .pre .1) (none .0 .0 .0 .1) (none .0 .0 .1) (none .0 .1) (none .1) in
-    let s = c .before .before .before .before .before .before .before .before in
+    let none = c .before .before .before .match .rest in
+    let sign = last-sign (c .before .before .before .before .before .before .pre .1) (none .0 .0 .0 .1) (none .0 .0 .1) (none .0 .1) (none .1) in
+    let s = c .before .before .before .before .before .before in
     let (after, here) = diamond-second (s .pre .1) sign .there (c .before .second2 .result) (c .before .second2 .ensures) in
     (omega (arith, s .pre .0, within (s .pre .1 .stands), after), here)
 
 test-walk-requires : (t : ℕ) → test-lts.Need-walk-requires (test-calls t) (test-at t) test.Post
 test-walk-requires t c κs =
-    let none = c .before .before .before .match .rest in
-    let sign = last-sign (c .before .before .before .before .before .before .before .before .before .pre .1) (none .0 .0 .0 .1) (none .0 .0 .1) (none .0 .1) (none .1) in
-    let s = c .before .before .before .before .before .before .before .before .before in
+    let none = c .before .before .before .before .match .rest in
+    let sign = last-sign (c .before .before .before .before .before .before .before .pre .1) (none .0 .0 .0 .1) (none .0 .0 .1) (none .0 .1) (none .1) in
+    let s = c .before .before .before .before .before .before .before in
     (omega (arith, s .pre .0, within (s .pre .1 .stands)), diamond-first (s .pre .1) sign)
 
 test-meet-requires-2 : (t : ℕ) → test-lts.Need-meet-requires-2 (test-calls t) (test-at t) test.Post
@@ -251,19 +251,19 @@ test-returns : (t : ℕ) → test-lts.Need-returns (test-calls t) (test-at t) te
 test-returns t c = always-found (c .match .keys1)
 
 test-returns-2 : (t : ℕ) → test-lts.Need-returns-2 (test-calls t) (test-at t) test.Post
-test-returns-2 t c = fluent-found (holds (c .before .row .result)) (c .before .before .match .keys2) (c .before .row .ensures) (c .meet .ensures)
+test-returns-2 t c = fluent-found (holds (c .before .row .result)) (c .before .before .before .match .keys2) (c .before .row .ensures) (c .meet .ensures)
 
 test-returns-3 : (t : ℕ) → test-lts.Need-returns-3 (test-calls t) (test-at t) test.Post
 test-returns-3 t c = neg-found (c .before .before .match .keys3) (c .before .test .ensures) (c .without .ensures)
 
 test-returns-4 : (t : ℕ) → test-lts.Need-returns-4 (test-calls t) (test-at t) test.Post
-test-returns-4 t c = both-found (c .before .before .before .before .before .before .before .before .before .pre .1 .marked) (c .before .before .second .ensures) (c .before .before .before .match .keys4) (c .before .test2 .ensures) (c .test3 .ensures)
+test-returns-4 t c = both-found (c .before .before .before .before .before .before .before .pre .1 .marked) (c .before .before .second .ensures) (c .before .before .before .before .match .keys4) (c .before .test2 .ensures) (c .test3 .ensures)
 
 test-returns-5 : (t : ℕ) → test-lts.Need-returns-5 (test-calls t) (test-at t) test.Post
 test-returns-5 t c =
-    let none = c .before .before .before .before .before .match .rest in
-    let sign = last-sign (c .before .before .before .before .before .before .before .before .before .before .before .pre .1) (none .0 .0 .0 .1) (none .0 .0 .1) (none .0 .1) (none .1) in
-    diamond-found (c .before .before .before .before .before .before .before .before .before .before .before .pre .1 .marked) (c .before .before .before .before .second2 .ensures) (holds (c .before .before .before .up-to .result)) sign (c .before .before .before .up-to .ensures) (c .before .before .test4 .ensures) (c .before .walk .ensures) (c .meet2 .ensures)
+    let none = c .before .before .before .before .before .before .match .rest in
+    let sign = last-sign (c .before .before .before .before .before .before .before .before .before .pre .1) (none .0 .0 .0 .1) (none .0 .0 .1) (none .0 .1) (none .1) in
+    diamond-found (c .before .before .before .before .before .before .before .before .before .pre .1 .marked) (c .before .before .before .before .second2 .ensures) (holds (c .before .before .before .up-to .result)) sign (c .before .before .before .up-to .ensures) (c .before .before .test4 .ensures) (c .before .walk .ensures) (c .meet2 .ensures)
 
 -- ---- walk
 -- what each call asks and tells
@@ -271,48 +271,48 @@ abbrev walk-calls : ℕ → walk-lts.Claims
 walk-calls t = (second-reads.Asked, second-reads.Learnt, walk-below t, walk.Post, join-reads.Asked, join-reads.Learnt, star-below t, star.Post, here-below t, here.Post, leaf-reads.Asked, leaf-reads.Learnt)
 
 walk-shared-slice-read-sign : (t : ℕ) → walk-lts.Need-shared-slice-read-sign (walk-calls t) (walk-at t) walk.Post
-walk-shared-slice-read-sign t c = within (c .before .before .before .before .before .pre .1 .stands)
+walk-shared-slice-read-sign t c = within (c .before .before .pre .1 .stands)
 
 walk-add-part : (t : ℕ) → walk-lts.Need-add-part (walk-calls t) (walk-at t) walk.Post
-walk-add-part t c = omega (arith, within (c .before .before .before .before .before .pre .1 .stands), c .before .before .before .before .before .good .0 .0)
+walk-add-part t c = omega (arith, within (c .before .before .pre .1 .stands), c .before .before .good .0 .0)
 
 walk-second-requires : (t : ℕ) → walk-lts.Need-second-requires (walk-calls t) (walk-at t) walk.Post
-walk-second-requires t c κs = seq-second (c .before .before .before .before .before .before .pre .1) (c .match .keys1) .inside
+walk-second-requires t c κs = seq-second (c .before .before .before .before .pre .1) (c .before .match .keys1) .inside
 
 walk-walk-requires : (t : ℕ) → walk-lts.Need-walk-requires (walk-calls t) (walk-at t) walk.Post
 walk-walk-requires t c κs =
-    let s = c .before .before .before .before .before .before .before .before in
-    let (after, here) = seq-second (s .pre .1) (c .before .before .match .keys1) .there (c .before .second .result) (c .before .second .ensures) in
+    let s = c .before .before .before .before .before .before in
+    let (after, here) = seq-second (s .pre .1) (c .before .before .before .match .keys1) .there (c .before .second .result) (c .before .second .ensures) in
     (omega (arith, s .pre .0, within (s .pre .1 .stands), after), here)
 
 walk-walk-requires-2 : (t : ℕ) → walk-lts.Need-walk-requires-2 (walk-calls t) (walk-at t) walk.Post
 walk-walk-requires-2 t c κs =
-    let s = c .before .before .before .before .before .before .before .before .before in
-    (omega (arith, s .pre .0, within (s .pre .1 .stands)), seq-first (s .pre .1) (c .before .before .before .match .keys1))
+    let s = c .before .before .before .before .before .before .before in
+    (omega (arith, s .pre .0, within (s .pre .1 .stands)), seq-first (s .pre .1) (c .before .before .before .before .match .keys1))
 
 walk-walk-requires-3 : (t : ℕ) → walk-lts.Need-walk-requires-3 (walk-calls t) (walk-at t) walk.Post
 walk-walk-requires-3 t c κs =
-    let s = c .before .before .before .before .before .before .before .before in
-    (omega (arith, s .pre .0, within (s .pre .1 .stands)), seq-first (s .pre .1) (c .before .before .match .keys1))
+    let s = c .before .before .before .before .before .before in
+    (omega (arith, s .pre .0, within (s .pre .1 .stands)), seq-first (s .pre .1) (c .before .before .before .match .keys1))
 
 walk-walk-requires-4 : (t : ℕ) → walk-lts.Need-walk-requires-4 (walk-calls t) (walk-at t) walk.Post
 walk-walk-requires-4 t c κs =
-    let s = c .before .before .before .before .before .before .before .before .before in
-    let (after, here) = seq-second (s .pre .1) (c .before .before .before .match .keys1) .there (c .before .before .second .result) (c .before .before .second .ensures) in
+    let s = c .before .before .before .before .before .before .before in
+    let (after, here) = seq-second (s .pre .1) (c .before .before .before .before .match .keys1) .there (c .before .before .second .result) (c .before .before .second .ensures) in
     (omega (arith, s .pre .0, within (s .pre .1 .stands), after), here)
 
 walk-second-requires-2 : (t : ℕ) → walk-lts.Need-second-requires-2 (walk-calls t) (walk-at t) walk.Post
-walk-second-requires-2 t c κs = alt-second (c .before .before .before .before .before .before .pre .1) (c .match .keys2) .inside
+walk-second-requires-2 t c κs = alt-second (c .before .before .before .before .pre .1) (c .before .match .keys2) .inside
 
 walk-walk-requires-5 : (t : ℕ) → walk-lts.Need-walk-requires-5 (walk-calls t) (walk-at t) walk.Post
 walk-walk-requires-5 t c κs =
-    let s = c .before .before .before .before .before .before .before in
-    (omega (arith, s .pre .0, within (s .pre .1 .stands)), alt-first (s .pre .1) (c .before .match .keys2))
+    let s = c .before .before .before .before .before in
+    (omega (arith, s .pre .0, within (s .pre .1 .stands)), alt-first (s .pre .1) (c .before .before .match .keys2))
 
 walk-walk-requires-6 : (t : ℕ) → walk-lts.Need-walk-requires-6 (walk-calls t) (walk-at t) walk.Post
 walk-walk-requires-6 t c κs =
-    let s = c .before .before .before .before .before .before .before .before in
-    let (after, here) = alt-second (s .pre .1) (c .before .before .match .keys2) .there (c .before .second2 .result) (c .before .second2 .ensures) in
+    let s = c .before .before .before .before .before .before in
+    let (after, here) = alt-second (s .pre .1) (c .before .before .before .match .keys2) .there (c .before .second2 .result) (c .before .second2 .ensures) in
     (omega (arith, s .pre .0, within (s .pre .1 .stands), after), here)
 
 walk-join-requires : (t : ℕ) → walk-lts.Need-join-requires (walk-calls t) (walk-at t) walk.Post
@@ -320,30 +320,30 @@ walk-join-requires t c κs = search needs
 
 walk-star-requires : (t : ℕ) → walk-lts.Need-star-requires (walk-calls t) (walk-at t) walk.Post
 walk-star-requires t c κs =
-    let s = c .before .before .before .before .before .before in
+    let s = c .before .before .before in
     (omega (arith, s .pre .0, within (s .pre .1 .stands)), star-part (s .pre .1) (c .match .keys3))
 
 walk-here-requires : (t : ℕ) → walk-lts.Need-here-requires (walk-calls t) (walk-at t) walk.Post
 walk-here-requires t c κs =
-    let s = c .before .before .before .before .before .before in
+    let s = c .before .before .before in
     (omega (arith, s .pre .0, within (s .pre .1 .stands)), check-part (s .pre .1) (c .match .keys4))
 
 walk-walk-requires-7 : (t : ℕ) → walk-lts.Need-walk-requires-7 (walk-calls t) (walk-at t) walk.Post
 walk-walk-requires-7 t c κs =
-    let s = c .before .before .before .before .before .before in
+    let s = c .before .before .before in
     (omega (arith, s .pre .0, within (s .pre .1 .stands)), conv-part (s .pre .1) (c .match .keys5))
 
 walk-leaf-requires : (t : ℕ) → walk-lts.Need-leaf-requires (walk-calls t) (walk-at t) walk.Post
-walk-leaf-requires t c κs = leaf-part (c .before .before .before .before .before .before .pre .1) (left-over (c .match .rest))
+walk-leaf-requires t c κs = leaf-part (c .before .before .before .pre .1) (left-over (c .match .rest))
 
 walk-returns : (t : ℕ) → walk-lts.Need-returns (walk-calls t) (walk-at t) walk.Post
-walk-returns t c = seq-back-found (c .before .before .before .before .before .before .before .before .before .before .pre .1 .marked) (c .before .before .before .second .ensures) (c .before .before .before .before .match .keys1) (c .before .before .if1 .taken) (c .before .walk .ensures) (c .walk2 .ensures)
+walk-returns t c = seq-back-found (c .before .before .before .before .before .before .before .before .pre .1 .marked) (c .before .before .before .second .ensures) (c .before .before .before .before .before .match .keys1) (c .before .before .if1 .taken) (c .before .walk .ensures) (c .walk2 .ensures)
 
 walk-returns-2 : (t : ℕ) → walk-lts.Need-returns-2 (walk-calls t) (walk-at t) walk.Post
-walk-returns-2 t c = seq-found (c .before .before .before .before .before .before .before .before .before .before .pre .1 .marked) (c .before .before .before .second .ensures) (c .before .before .before .before .match .keys1) (c .before .before .if1 .left) (c .before .walk3 .ensures) (c .walk4 .ensures)
+walk-returns-2 t c = seq-found (c .before .before .before .before .before .before .before .before .pre .1 .marked) (c .before .before .before .second .ensures) (c .before .before .before .before .before .match .keys1) (c .before .before .if1 .left) (c .before .walk3 .ensures) (c .walk4 .ensures)
 
 walk-returns-3 : (t : ℕ) → walk-lts.Need-returns-3 (walk-calls t) (walk-at t) walk.Post
-walk-returns-3 t c = alt-found (c .before .before .before .before .before .before .before .before .before .before .pre .1 .marked) (c .before .before .before .second2 .ensures) (c .before .before .before .before .match .keys2) (c .before .before .walk5 .ensures) (c .before .walk6 .ensures) (c .join .ensures)
+walk-returns-3 t c = alt-found (c .before .before .before .before .before .before .before .before .pre .1 .marked) (c .before .before .before .second2 .ensures) (c .before .before .before .before .before .match .keys2) (c .before .before .walk5 .ensures) (c .before .walk6 .ensures) (c .join .ensures)
 
 walk-returns-4 : (t : ℕ) → walk-lts.Need-returns-4 (walk-calls t) (walk-at t) walk.Post
 walk-returns-4 t c = star-found (c .before .match .keys3) (c .star .ensures)

@@ -48,13 +48,13 @@ calls t = (
 )
 
 shared-slice-read-sign : (t : ℕ) → lts.Need-shared-slice-read-sign (calls t) (given t) reads.Post
-shared-slice-read-sign t c = within (c .before .before .before .before .before .pre .1 .stands)
+shared-slice-read-sign t c = within (c .before .before .pre .1 .stands)
 
 add-part : (t : ℕ) → lts.Need-add-part (calls t) (given t) reads.Post
-add-part t c = omega (arith, within (c .before .before .before .before .before .pre .1 .stands))
+add-part t c = omega (arith, within (c .before .before .pre .1 .stands))
 
 named-requires : (t : ℕ) → lts.Need-named-requires (calls t) (given t) reads.Post
-named-requires t c κs = act-number (c .before .before .before .before .before .before .pre .1) (c .match .keys1)
+named-requires t c κs = act-number (c .before .before .before .pre .1) (c .match .keys1)
 
 one-requires : (t : ℕ) → lts.Need-one-requires (calls t) (given t) reads.Post
 one-requires t c κs = search needs
@@ -66,42 +66,42 @@ waits-requires-2 : (t : ℕ) → lts.Need-waits-requires-2 (calls t) (given t) r
 waits-requires-2 t c κs = search needs
 
 second-requires : (t : ℕ) → lts.Need-second-requires (calls t) (given t) reads.Post
-second-requires t c κs = seq-second (c .before .before .before .before .before .before .pre .1) (c .match .keys3) .inside
+second-requires t c κs = seq-second (c .before .before .before .before .pre .1) (c .before .match .keys3) .inside
 
 walk-requires : (t : ℕ) → lts.Need-walk-requires (calls t) (given t) reads.Post
-walk-requires t c κs = seq-first (c .before .before .before .before .before .before .before .pre .1) (c .before .match .keys3)
+walk-requires t c κs = seq-first (c .before .before .before .before .before .pre .1) (c .before .before .match .keys3)
 
 asks-requires : (t : ℕ) → lts.Need-asks-requires (calls t) (given t) reads.Post
 asks-requires t c κs =
-    let s = c .before .before .before .before .before .before .before .before in
-    (omega (arith, within (s .pre .1 .stands)), seq-first (s .pre .1) (c .before .before .match .keys3))
+    let s = c .before .before .before .before .before .before in
+    (omega (arith, within (s .pre .1 .stands)), seq-first (s .pre .1) (c .before .before .before .match .keys3))
 
 asks-requires-2 : (t : ℕ) → lts.Need-asks-requires-2 (calls t) (given t) reads.Post
 asks-requires-2 t c κs =
-    let s = c .before .before .before .before .before .before .before .before .before in
-    let next = seq-second (s .pre .1) (c .before .before .before .match .keys3) .there (c .before .before .second .result) (c .before .before .second .ensures) in
+    let s = c .before .before .before .before .before .before .before in
+    let next = seq-second (s .pre .1) (c .before .before .before .before .match .keys3) .there (c .before .before .second .result) (c .before .before .second .ensures) in
     (omega (arith, within (s .pre .1 .stands), next .0), next .1)
 
 second-requires-2 : (t : ℕ) → lts.Need-second-requires-2 (calls t) (given t) reads.Post
-second-requires-2 t c κs = alt-second (c .before .before .before .before .before .before .pre .1) (c .match .keys4) .inside
+second-requires-2 t c κs = alt-second (c .before .before .before .before .pre .1) (c .before .match .keys4) .inside
 
 asks-requires-3 : (t : ℕ) → lts.Need-asks-requires-3 (calls t) (given t) reads.Post
 asks-requires-3 t c κs =
-    let s = c .before .before .before .before .before .before .before in
-    (omega (arith, within (s .pre .1 .stands)), alt-first (s .pre .1) (c .before .match .keys4))
+    let s = c .before .before .before .before .before in
+    (omega (arith, within (s .pre .1 .stands)), alt-first (s .pre .1) (c .before .before .match .keys4))
 
 asks-requires-4 : (t : ℕ) → lts.Need-asks-requires-4 (calls t) (given t) reads.Post
 asks-requires-4 t c κs =
-    let s = c .before .before .before .before .before .before .before .before in
-    let next = alt-second (s .pre .1) (c .before .before .match .keys4) .there (c .before .second2 .result) (c .before .second2 .ensures) in
+    let s = c .before .before .before .before .before .before in
+    let next = alt-second (s .pre .1) (c .before .before .before .match .keys4) .there (c .before .second2 .result) (c .before .second2 .ensures) in
     (omega (arith, within (s .pre .1 .stands), next .0), next .1)
 
 walk-requires-2 : (t : ℕ) → lts.Need-walk-requires-2 (calls t) (given t) reads.Post
-walk-requires-2 t c κs = c .before .before .before .before .before .before .pre .1
+walk-requires-2 t c κs = c .before .before .before .pre .1
 
 asks-requires-5 : (t : ℕ) → lts.Need-asks-requires-5 (calls t) (given t) reads.Post
 asks-requires-5 t c κs =
-    let s = c .before .before .before .before .before .before .before in
+    let s = c .before .before .before .before in
     (omega (arith, within (s .pre .1 .stands)), star-part (s .pre .1) (c .before .match .keys5))
 
 returns : (t : ℕ) → lts.Need-returns (calls t) (given t) reads.Post
@@ -114,14 +114,14 @@ returns-2 t c = next-found (c .before .match .keys2) (c .waits2 .ensures)
 
 returns-3 : (t : ℕ) → lts.Need-returns-3 (calls t) (given t) reads.Post
 returns-3 t c =
-    let s = c .before .before .before .before .before .before .before .before .before .before in
-    seq-found (s .pre .1 .marked) (c .before .before .before .second .ensures) (c .before .before .before .before .match .keys3)
+    let s = c .before .before .before .before .before .before .before .before in
+    seq-found (s .pre .1 .marked) (c .before .before .before .second .ensures) (c .before .before .before .before .before .match .keys3)
     (c .before .asks .ensures) (c .before .before .walk .ensures) (c .asks2 .ensures)
 
 returns-4 : (t : ℕ) → lts.Need-returns-4 (calls t) (given t) reads.Post
 returns-4 t c =
-    let s = c .before .before .before .before .before .before .before .before .before in
-    alt-found (s .pre .1 .marked) (c .before .before .second2 .ensures) (c .before .before .before .match .keys4) (c .before .asks3 .ensures) (c .asks4 .ensures)
+    let s = c .before .before .before .before .before .before .before in
+    alt-found (s .pre .1 .marked) (c .before .before .second2 .ensures) (c .before .before .before .before .match .keys4) (c .before .asks3 .ensures) (c .asks4 .ensures)
 
 returns-5 : (t : ℕ) → lts.Need-returns-5 (calls t) (given t) reads.Post
 returns-5 t c = star-found (c .before .before .match .keys5) (c .before .walk2 .ensures) (c .asks5 .ensures)

@@ -46,17 +46,17 @@ slice-reshare-prefix-finished : (t : ℕ) → lts.Need-slice-reshare-prefix-fini
 slice-reshare-prefix-finished t c = omega arith
 
 slice-aggregate-finished : (t : ℕ) → lts.Need-slice-aggregate-finished (calls t) (given t) reads.Post Inv μ-loop
-slice-aggregate-finished t c = let s = c .before .before .before .before .before .before in sym (length-take-le (s .args .n) (now (s .args .trail)) (omega arith))
+slice-aggregate-finished t c = let s = c .before .before .before .before .before in sym (length-take-le (s .args .n) (now (s .args .trail)) (omega arith))
 
 finished-requires : (t : ℕ) → lts.Need-finished-requires (calls t) (given t) reads.Post Inv μ-loop
-finished-requires t c κs = c .before .before .before .before .before .before .pre .1 .node
+finished-requires t c κs = c .before .before .before .before .before .pre .1 .node
 
 same-length : (t : ℕ) → lts.Need-same-length (calls t) (given t) reads.Post Inv μ-loop
 same-length t c = search needs
 
 returns : (t : ℕ) → lts.Need-returns (calls t) (given t) reads.Post Inv μ-loop
 returns t c =
-    let a = c .before .before .before .before .before .before .before .args in
+    let a = c .before .before .before .before .before .before .args in
     rw (c .before .before .if1 .taken)
     (leaf-told (a .actions) (a .start) (now (a .masks)) (now (a .job)) (now (a .trail)) (a .n) (c .finished .result) (c .finished .ensures))
 
@@ -70,10 +70,10 @@ slice-reshare-prefix-tries : (t : ℕ) → lts.Need-slice-reshare-prefix-tries (
 slice-reshare-prefix-tries t c = omega arith
 
 slice-aggregate-tries : (t : ℕ) → lts.Need-slice-aggregate-tries (calls t) (given t) reads.Post Inv μ-loop
-slice-aggregate-tries t c = let s = c .before .before .before .before .before .before in sym (length-take-le (s .args .n) (now (s .args .trail)) (omega arith))
+slice-aggregate-tries t c = let s = c .before .before .before .before .before in sym (length-take-le (s .args .n) (now (s .args .trail)) (omega arith))
 
 tries-requires : (t : ℕ) → lts.Need-tries-requires (calls t) (given t) reads.Post Inv μ-loop
-tries-requires t c κs = c .before .before .before .before .before .before .pre .1 .node
+tries-requires t c κs = c .before .before .before .before .before .pre .1 .node
 
 loop-holds : (t : ℕ) → lts.Need-loop-holds (calls t) (given t) reads.Post Inv μ-loop
 loop-holds t c = (omega arith, refl, refl, λ fluents x j b h. absurd (omega arith))
@@ -89,7 +89,7 @@ slice-write-trail t c = omega arith
 
 complete-requires : (t : ℕ) → lts.Need-complete-requires (calls t) (given t) reads.Post Inv μ-loop
 complete-requires t c κs =
-    let s = c .before .before .before .before .before .before .before .before .before .before .before in
+    let s = c .before .before .before .before .before .before .before .before .before .before in
     let a = s .args in
     let k = c .before .before .before .loop in (
       omega arith,
@@ -104,7 +104,7 @@ same-length-2 t c =
 
 returns-2 : (t : ℕ) → lts.Need-returns-2 (calls t) (given t) reads.Post Inv μ-loop
 returns-2 t c =
-    let s = c .before .before .before .before .before .before .before .before .before .before .before .before .before .before .before in
+    let s = c .before .before .before .before .before .before .before .before .before .before .before .before .before .before in
     let a = s .args in
     let k = c .before .before .before .before .before .before .before .loop in
     let call = c .before .before .before .complete in
@@ -128,15 +128,15 @@ loop-less t c = omega arith
 
 -- the place behind the log, as the loop has it
 behind : (t : ℕ) (c : lts.At-loop (calls t) (given t) reads.Post Inv μ-loop)
-    → c .before .before .before .before .before .before .before .before .args .n < length (c .loop .trail)
+    → c .before .before .before .before .before .before .before .args .n < length (c .loop .trail)
 behind t c =
-    let s = c .before .before .before .before .before .before .before .before in
+    let s = c .before .before .before .before .before .before .before in
     let a = s .args in
     place (a .actions) (now (a .masks)) (now (a .job)) (now (a .ends)) (now (a .trail)) (c .loop .trail) (a .n) (a .left) (s .pre .1) (c .loop .inv .1)
 
 loop-again : (t : ℕ) → lts.Need-loop-again (calls t) (given t) reads.Post Inv μ-loop
 loop-again t c =
-    let a = c .before .before .before .before .before .before .before .before .before .before .args in
+    let a = c .before .before .before .before .before .before .before .before .before .args in
     let k = c .before .before .loop in
     let asked = c .before .before .before .tries in
     ⊎-elim
@@ -164,7 +164,7 @@ same-length-3 t c = c .before .loop .inv .1
 
 returns-3 : (t : ℕ) → lts.Need-returns-3 (calls t) (given t) reads.Post Inv μ-loop
 returns-3 t c =
-    let a = c .before .before .before .before .before .before .before .before .before .args in
+    let a = c .before .before .before .before .before .before .before .before .args in
     let k = c .before .loop in
     none-told (a .actions) (a .start) (now (a .masks)) (now (a .job)) (now (a .trail)) (k .trail) (a .n) (a .left) (a .left - 1) (omega arith) (k .inv .2)
     (λ fluents x j i h. k .inv .3 fluents x j i (omega arith))

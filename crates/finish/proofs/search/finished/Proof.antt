@@ -1,5 +1,4 @@
 -- `finish::search::finished` meets its contract: the job leads from 0 to the end if the end is in what it reaches from 0.
-use mathlib.Core.Path.{sym}
 use native.Mathlib.Omega.{arith}
 use denote.Ref.{now}
 use lib.ListN.{length}
@@ -13,17 +12,11 @@ use Rattle.finish.proofs.search.finished.Tie as tie
 
 transpose-requires : tie.Need-transpose-requires
 transpose-requires c κs =
-    let s = c .before .before .before .before .before .before in
+    let s = c .before .before .before .before .before in
     readable (s .args .actions) (now (s .args .masks)) (now (s .args .log)) (s .pre .logged)
 
 at-requires : tie.Need-at-requires
 at-requires c κs = search needs
-
-slice-aggregate-walk : tie.Need-slice-aggregate-walk
-slice-aggregate-walk c = sym (c .before .before .transpose .ensures 0 0 .actionsRoom)
-
-slice-aggregate-walk-2 : tie.Need-slice-aggregate-walk-2
-slice-aggregate-walk-2 c = sym (c .before .before .before .transpose .ensures 0 0 .fluentsRoom)
 
 walk-requires : tie.Need-walk-requires
 walk-requires c κs = search needs
@@ -33,7 +26,7 @@ has-requires c κs = search needs
 
 returns : tie.Need-returns
 returns c =
-    let s = c .before .before .before .before .before .before .before .before .before .before .before .before in
+    let s = c .before .before .before .before .before .before .before .before .before .before .before in
     let a = s .args in
     let n = length (now (a .log)) in
     let front = c .before .before .before .before .at .ensures in
@@ -52,8 +45,6 @@ finished-spec =
     (tie.spec
     transpose-requires
     at-requires
-    slice-aggregate-walk
-    slice-aggregate-walk-2
     walk-requires
     has-requires
     returns)

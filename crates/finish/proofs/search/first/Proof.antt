@@ -23,7 +23,7 @@ loop-holds c = (omega arith, refl, refl, λ fluents x i j h. absurd (omega arith
 
 complete-requires : tie.Need-complete-requires Inv-loop μ-loop
 complete-requires c κs =
-    let s = c .before .before .before .before .before .before .before .before in
+    let s = c .before .before .before .before .before .before .before in
     let a = s .args in
     let k = c .before .before .loop in
     ready-again (a .actions) (now (a .masks)) (now (a .job)) (now (a .ends)) (now (a .trail)) (k .trail) (a .n) (k .k) (s .pre) (k .inv .1) (k .inv .2)
@@ -34,7 +34,7 @@ same-length c = c .before .before .before .complete .kept .1 .1 .1 .1 .1 .0 ∙ 
 
 returns : tie.Need-returns Inv-loop μ-loop
 returns c =
-    let a = c .before .before .before .before .before .before .before .before .before .before .before .before .args in
+    let a = c .before .before .before .before .before .before .before .before .before .before .before .args in
     let k = c .before .before .before .before .before .before .loop in
     let call = c .before .before .before .complete in
     at-told (a .actions) (a .start) (now (a .masks)) (now (a .job)) (now (a .trail)) (k .trail) (call .last .1 .1 .1 .1 .1 .0) (a .n) (a .more) (k .k)
@@ -49,7 +49,7 @@ loop-less c = omega arith
 
 loop-again : tie.Need-loop-again Inv-loop μ-loop
 loop-again c =
-    let a = c .before .before .before .before .before .before .before .before .before .before .before .before .args in
+    let a = c .before .before .before .before .before .before .before .before .before .before .before .args in
     let k = c .before .before .before .before .before .before .loop in
     let call = c .before .before .before .complete in
     let last = call .last .1 .1 .1 .1 .1 .0 in
@@ -66,7 +66,7 @@ same-length-2 c = c .before .loop .inv .1
 
 returns-2 : tie.Need-returns-2 Inv-loop μ-loop
 returns-2 c =
-    let a = c .before .before .before .before .before .before .before .args in
+    let a = c .before .before .before .before .before .before .args in
     let k = c .before .loop in
     nothing-told (a .actions) (a .start) (now (a .masks)) (now (a .job)) (now (a .trail)) (k .trail) (a .n) (a .more) (k .k) (omega arith) (omega arith) (k .inv .3)
 

@@ -1,5 +1,5 @@
 -- `finish::tries::tries` meets its contract: an action that is not possible, or that the job does not ask for, begins no rest.
-use mathlib.Core.Path.{_≡_, sym, _∙_}
+use mathlib.Core.Path.{_≡_, _∙_}
 use native.Mathlib.Omega.{arith}
 use denote.Ref.{now}
 use lib.ListN.{length}
@@ -17,24 +17,18 @@ use Rattle.finish.proofs.tries.tries.Tie as tie
 
 transpose-requires : tie.Need-transpose-requires
 transpose-requires c κs =
-    let s = c .before .before .before .before .before .before in
+    let s = c .before .before .before .before .before in
     readable (s .args .actions) (now (s .args .masks)) (now (s .args .log)) (s .pre .logged)
 
 at-requires : tie.Need-at-requires
 at-requires c κs = search needs
-
-slice-aggregate-asks : tie.Need-slice-aggregate-asks
-slice-aggregate-asks c = sym (c .before .before .transpose .ensures 0 0 .actionsRoom)
-
-slice-aggregate-asks-2 : tie.Need-slice-aggregate-asks-2
-slice-aggregate-asks-2 c = sym (c .before .before .before .transpose .ensures 0 0 .fluentsRoom)
 
 asks-requires : tie.Need-asks-requires
 asks-requires c κs = search needs
 
 state-at-requires : tie.Need-state-at-requires
 state-at-requires c κs =
-    let s = c .before .before .before .before .before .before .before .before .before .before .before in
+    let s = c .before .before .before .before .before .before .before .before .before .before in
     (omega arith, readable (s .args .actions) (now (s .args .masks)) (now (s .args .log)) (s .pre .logged))
 
 doable-requires : tie.Need-doable-requires
@@ -42,7 +36,7 @@ doable-requires c κs = search needs
 
 returns : tie.Need-returns
 returns c =
-    let s = c .before .before .before .before .before .before .before .before .before .before .before .before .before in
+    let s = c .before .before .before .before .before .before .before .before .before .before .before .before in
     let a = s .args in
     let n = length (now (a .log)) in
     let front = c .before .before .before .before .before .at in
@@ -63,8 +57,6 @@ tries-spec =
     (tie.spec
     transpose-requires
     at-requires
-    slice-aggregate-asks
-    slice-aggregate-asks-2
     asks-requires
     state-at-requires
     doable-requires

@@ -1,8 +1,9 @@
 -- `answer::above` meets its contract: the arm that binds the facts is given that the part is found with them.
 use borrow.Author.Needs.{needs}
 use mathlib.Core.Path.{refl, subst}
-use Prim.Native.Nat.{_<_, _^_}
+use Prim.Native.Nat.{_<_}
 use native.Mathlib.Omega.{arith}
+use Rattle.meaning.specs.Limits.{textLimit}
 use Rattle.rule.specs.declared.answer.Read.{Read}
 use Rattle.rule.specs.Facts.{depthIn}
 use Rattle.rule.proofs.answer.above.Statement.{statement}
@@ -17,7 +18,7 @@ enum-known-part c = search needs
 add-t5 : tie.Need-add-t5
 add-t5 c =
     omega
-    (arith, subst (λ (r : Read). depthIn r < 2 ^ 63) (c .before .before .part .given .1) (c .before .before .before .before .pre))
+    (arith, subst (λ (r : Read). depthIn r < textLimit) (c .before .before .part .given .1) (c .before .before .before .before .pre))
 
 either-requires : tie.Need-either-requires
 either-requires c κs = search needs

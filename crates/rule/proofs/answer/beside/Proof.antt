@@ -1,8 +1,9 @@
 -- `answer::beside` meets its contract: the arm that binds the facts is given that the part is found with them.
 use borrow.Author.Needs.{needs}
 use mathlib.Core.Path.{refl, subst}
-use Prim.Native.Nat.{_<_, _^_}
+use Prim.Native.Nat.{_<_}
 use native.Mathlib.Omega.{arith}
+use Rattle.meaning.specs.Limits.{textLimit}
 use Rattle.rule.specs.declared.answer.Read.{Read}
 use Rattle.rule.specs.Facts.{depthIn}
 use Rattle.rule.proofs.answer.beside.Statement.{statement}
@@ -20,7 +21,7 @@ larger-requires c κs = search needs
 add-t6 : tie.Need-add-t6
 add-t6 c =
     omega
-    (arith, subst (λ (r : Read). depthIn r < 2 ^ 63) (c .before .before .second .given .1) (c .before .before .before .before .pre .1))
+    (arith, subst (λ (r : Read). depthIn r < textLimit) (c .before .before .second .given .1) (c .before .before .before .before .pre .1))
 
 larger-requires-2 : tie.Need-larger-requires-2
 larger-requires-2 c κs = search needs

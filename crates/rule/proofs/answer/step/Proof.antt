@@ -1,8 +1,10 @@
 -- `answer::step` meets its contract: the arm that binds the number is given that the name is it.
 use borrow.Author.Needs.{needs}
 use mathlib.Core.Path.{sym, ap}
+use native.Mathlib.Omega.{arith}
 use Rattle.rule.specs.declared.number.Number.{Number}
 use Rattle.rule.specs.Facts.{stepOf}
+use Rattle.rule.proofs.Numbers.{number-named}
 use Rattle.rule.proofs.answer.step.Statement.{statement}
 use Rattle.rule.proofs.answer.step.Tie as tie
 
@@ -13,10 +15,13 @@ enum-known-name : tie.Need-enum-known-name
 enum-known-name c = search needs
 
 cast-t6 : tie.Need-cast-t6
-cast-t6 c = search needs
+cast-t6 c = omega (arith, number-named (c .before .before .before .args .end) (c .before .name .given .1) (c .before .before .before .pre) .1)
 
-add-t7 : tie.Need-add-t7
-add-t7 c = search needs
+cast-t7 : tie.Need-cast-t7
+cast-t7 c = omega (arith, number-named (c .before .before .before .args .end) (c .before .name .given .1) (c .before .before .before .pre) .0)
+
+add-t8 : tie.Need-add-t8
+add-t8 c = omega (arith, number-named (c .before .before .before .args .end) (c .before .name .given .1) (c .before .before .before .pre) .0)
 
 returns : tie.Need-returns
 returns c = search needs
@@ -25,4 +30,4 @@ returns-2 : tie.Need-returns-2
 returns-2 c = ap (λ (n : Number). stepOf n (c .before .before .before .args .end) (c .before .before .before .args .turn)) (sym (c .before .name .given .1))
 
 pub step-spec : {M : Type 1} → statement M
-step-spec = tie.close (tie.spec enum-told enum-known-name cast-t6 add-t7 returns returns-2)
+step-spec = tie.close (tie.spec enum-told enum-known-name cast-t6 cast-t7 add-t8 returns returns-2)

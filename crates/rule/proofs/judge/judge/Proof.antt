@@ -10,11 +10,20 @@ use native.Mathlib.Omega.{arith}
 use Rattle.rule.proofs.judge.judge.Statement.{statement}
 use Rattle.rule.proofs.judge.judge.Tie as tie
 
+cast-if1 : tie.Need-cast-if1
+cast-if1 c = search needs
+
 returns : tie.Need-returns
 returns c = here tt (inl (c .if1 .taken))
 
+cast-if2 : tie.Need-cast-if2
+cast-if2 c = search needs
+
 returns-2 : tie.Need-returns-2
 returns-2 c = here tt (inr (c .if2 .taken))
+
+cast-if3 : tie.Need-cast-if3
+cast-if3 c = search needs
 
 returns-3 : tie.Need-returns-3
 returns-3 c =
@@ -54,8 +63,11 @@ pub judge-spec : {M : Type 1} → statement M
 judge-spec =
     tie.close
     (tie.spec
+    cast-if1
     returns
+    cast-if2
     returns-2
+    cast-if3
     returns-3
     enum-told
     enum-told-2

@@ -1,8 +1,8 @@
 -- `judge::survey` meets its contract, by the laws of `Outcomes`.
 use mathlib.Core.Path.{subst}
-use mathlib.Core.Bool.{Bool}
+use Rattle.laws.proofs.Truth.{off-on}
 use Rattle.meaning.specs.Refusal.{BadCounts}
-use Rattle.rule.specs.Outcome.{kindOf, Says, OpenedAs}
+use Rattle.rule.specs.Outcome.{kindOf, OpenedAs}
 use Rattle.rule.proofs.Outcomes as laws
 use borrow.Author.Needs.{needs}
 use Rattle.rule.proofs.judge.survey.Statement.{statement}
@@ -16,7 +16,7 @@ returns c =
     let e = c .before .before .before in
     let kind = kindOf (e .args .kind) in
     let text = e .args .text .now in
-    laws.counts-refused (e .args .whole) kind text (e .args .fluents) (e .args .actions) (subst (λ (b : Bool). Says b (BadCounts (e .args .fluents) (e .args .actions))) (c .if1 .taken) (c .before .bad-counts .ensures))
+    laws.counts-refused (e .args .whole) kind text (e .args .fluents) (e .args .actions) (c .before .bad-counts .ensures .0 (c .if1 .taken))
 
 opening-requires : tie.Need-opening-requires
 opening-requires c κs = search needs
@@ -35,7 +35,7 @@ returns-2 c =
     let e = c .before .before .before .before .before .before in
     let kind = kindOf (e .args .kind) in
     let text = e .args .text .now in
-    let good = subst (λ (b : Bool). Says b (BadCounts (e .args .fluents) (e .args .actions))) (c .before .before .before .if1 .left) (c .before .before .before .before .bad-counts .ensures) in
+    let good : ¬ BadCounts (e .args .fluents) (e .args .actions) = λ bad. off-on (c .before .before .before .if1 .left) (c .before .before .before .before .bad-counts .ensures .1 bad) in
     laws.rule-refused (e .args .whole) kind text (e .args .fluents) (e .args .actions) good (subst (OpenedAs (e .args .whole) kind text) (c .enum-told .given .1) (c .before .before .opening .ensures))
 
 returns-3 : tie.Need-returns-3
@@ -43,7 +43,7 @@ returns-3 c =
     let e = c .before .before .before .before .before .before .before .before in
     let kind = kindOf (e .args .kind) in
     let text = e .args .text .now in
-    let good = subst (λ (b : Bool). Says b (BadCounts (e .args .fluents) (e .args .actions))) (c .before .before .before .before .before .if1 .left) (c .before .before .before .before .before .before .bad-counts .ensures) in
+    let good : ¬ BadCounts (e .args .fluents) (e .args .actions) = λ bad. off-on (c .before .before .before .before .before .if1 .left) (c .before .before .before .before .before .before .bad-counts .ensures .1 bad) in
     laws.facts-judged (e .args .whole) kind text (e .args .fluents) (e .args .actions) (c .before .before .f .given .0 .0) (c .judge .result) good (subst (OpenedAs (e .args .whole) kind text) (c .before .before .f .given .1) (c .before .before .before .before .opening .ensures)) (c .judge .ensures)
 
 pub survey-spec : {M : Type 1} → statement M

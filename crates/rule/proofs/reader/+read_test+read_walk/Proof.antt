@@ -11,6 +11,7 @@ use Rattle.meaning.specs.Rule.{walkKind, testKind}
 use Rattle.rule.specs.declared.Facts.{Facts}
 use Rattle.rule.specs.Facts.{besideOf}
 use Rattle.rule.specs.Read.{ReadAt}
+use Rattle.rule.proofs.Numbers.{named-within}
 use Rattle.rule.proofs.Answers as laws
 use Rattle.rule.proofs.reader.read_test.Reads as read-test
 use Rattle.rule.proofs.reader.read_test.Kinds as read-test-kinds
@@ -84,7 +85,7 @@ read-test-shared-slice-read-sign : (t : ℕ) → read-test-lts.Need-shared-slice
 read-test-shared-slice-read-sign t c = c .before .if1 .left
 
 read-test-leaf-requires : (t : ℕ) → read-test-lts.Need-leaf-requires (read-test-calls t) (read-test-at t) read-test.Post
-read-test-leaf-requires t c κs = tt
+read-test-leaf-requires t c κs = omega (arith, c .before .before .if1 .left, c .before .before .before .before .pre .1)
 
 read-test-number-at-requires : (t : ℕ) → read-test-lts.Need-number-at-requires (read-test-calls t) (read-test-at t) read-test.Post
 read-test-number-at-requires t c κs = tt
@@ -93,19 +94,21 @@ read-test-add-fluent : (t : ℕ) → read-test-lts.Need-add-fluent (read-test-ca
 read-test-add-fluent t c = omega (arith, c .before .before .before .if1 .left, c .before .before .before .before .before .good)
 
 read-test-fluent-requires : (t : ℕ) → read-test-lts.Need-fluent-requires (read-test-calls t) (read-test-at t) read-test.Post
-read-test-fluent-requires t c κs = tt
+read-test-fluent-requires t c κs =
+    let s = c .before .before in
+    named-within (test-text t s) (test-place t s) (c .number-at .result) (s .before .before .before .pre .1) (c .number-at .ensures)
 
 read-test-read-test-requires : (t : ℕ) → read-test-lts.Need-read-test-requires (read-test-calls t) (read-test-at t) read-test.Post
-read-test-read-test-requires t c κs = (omega (arith, c .before .before .if1 .left, c .before .before .before .before .pre .0), tt)
+read-test-read-test-requires t c κs = (omega (arith, c .before .before .if1 .left, c .before .before .before .before .pre .0), c .before .before .before .before .pre .1)
 
 read-test-above-requires : (t : ℕ) → read-test-lts.Need-above-requires (read-test-calls t) (read-test-at t) read-test.Post
 read-test-above-requires t c κs =
     let s = c .before .before in
     omega
-    (arith, laws.depth-within testKind (test-text t s) (test-place t s + 1) (c .read-test .result) (c .read-test .ensures), s .before .before .before .good)
+    (arith, laws.depth-within testKind (test-text t s) (test-place t s + 1) (c .read-test .result) (c .read-test .ensures), s .before .if1 .left, s .before .before .before .pre .1)
 
 read-test-read-test-requires-2 : (t : ℕ) → read-test-lts.Need-read-test-requires-2 (read-test-calls t) (read-test-at t) read-test.Post
-read-test-read-test-requires-2 t c κs = (omega (arith, c .before .before .if1 .left, c .before .before .before .before .pre .0), tt)
+read-test-read-test-requires-2 t c κs = (omega (arith, c .before .before .if1 .left, c .before .before .before .before .pre .0), c .before .before .before .before .pre .1)
 
 read-test-enum-told : (t : ℕ) → read-test-lts.Need-enum-told (read-test-calls t) (read-test-at t) read-test.Post
 read-test-enum-told t c = search needs
@@ -113,24 +116,27 @@ read-test-enum-told t c = search needs
 read-test-enum-known-first : (t : ℕ) → read-test-lts.Need-enum-known-first (read-test-calls t) (read-test-at t) read-test.Post
 read-test-enum-known-first t c = search needs
 
+read-test-cast-middle : (t : ℕ) → read-test-lts.Need-cast-middle (read-test-calls t) (read-test-at t) read-test.Post
+read-test-cast-middle t c = search needs
+
 read-test-read-test-requires-3 : (t : ℕ) → read-test-lts.Need-read-test-requires-3 (read-test-calls t) (read-test-at t) read-test.Post
 read-test-read-test-requires-3 t c κs =
-    let s = c .before .before .before .before .before in
-    let first = subst (ReadAt testKind (test-text t s) (test-place t s + 1)) (c .before .first .given .1) (c .before .before .before .read-test2 .ensures) in
-    let within = laws.found-within testKind (test-text t s) (test-place t s + 1) (c .before .first .given .0 .0) first in
-    (omega (arith, within .past, s .before .if1 .left, s .before .before .before .pre .0), tt)
+    let s = c .before .before .before .before .before .before in
+    let first = subst (ReadAt testKind (test-text t s) (test-place t s + 1)) (c .before .before .first .given .1) (c .before .before .before .before .read-test2 .ensures) in
+    let within = laws.found-within testKind (test-text t s) (test-place t s + 1) (c .before .before .first .given .0 .0) first in
+    (omega (arith, within .past, s .before .if1 .left, s .before .before .before .pre .0), s .before .before .before .pre .1)
 
 read-test-beside-requires : (t : ℕ) → read-test-lts.Need-beside-requires (read-test-calls t) (read-test-at t) read-test.Post
 read-test-beside-requires t c κs =
-    let s = c .before .before .before .before .before .before in
-    let f = c .before .before .first .given .0 .0 in
-    let first = subst (ReadAt testKind (test-text t s) (test-place t s + 1)) (c .before .before .first .given .1) (c .before .before .before .before .read-test2 .ensures) in
+    let s = c .before .before .before .before .before .before .before in
+    let f = c .before .before .before .first .given .0 .0 in
+    let first = subst (ReadAt testKind (test-text t s) (test-place t s + 1)) (c .before .before .before .first .given .1) (c .before .before .before .before .before .read-test2 .ensures) in
     let within = laws.found-within testKind (test-text t s) (test-place t s + 1) f first in
-    let second = laws.depth-within testKind (test-text t s) (f .end) (c .read-test3 .result) (c .read-test3 .ensures) in
-    (omega (arith, within .deep, s .before .before .before .good), omega (arith, second, s .before .before .before .good))
+    let second = laws.depth-within testKind (test-text t s) _ (c .read-test3 .result) (c .read-test3 .ensures) in
+    (omega (arith, within .deep, s .before .if1 .left, s .before .before .before .pre .1), omega (arith, second, within .past, s .before .if1 .left, s .before .before .before .pre .1))
 
 read-test-read-walk-requires : (t : ℕ) → read-test-lts.Need-read-walk-requires (read-test-calls t) (read-test-at t) read-test.Post
-read-test-read-walk-requires t c κs = (omega (arith, c .before .before .if1 .left, c .before .before .before .before .pre .0), tt)
+read-test-read-walk-requires t c κs = (omega (arith, c .before .before .if1 .left, c .before .before .before .before .pre .0), c .before .before .before .before .pre .1)
 
 read-test-enum-told-2 : (t : ℕ) → read-test-lts.Need-enum-told-2 (read-test-calls t) (read-test-at t) read-test.Post
 read-test-enum-told-2 t c = search needs
@@ -138,24 +144,27 @@ read-test-enum-told-2 t c = search needs
 read-test-enum-known-first-2 : (t : ℕ) → read-test-lts.Need-enum-known-first-2 (read-test-calls t) (read-test-at t) read-test.Post
 read-test-enum-known-first-2 t c = search needs
 
+read-test-cast-middle-2 : (t : ℕ) → read-test-lts.Need-cast-middle-2 (read-test-calls t) (read-test-at t) read-test.Post
+read-test-cast-middle-2 t c = search needs
+
 read-test-read-test-requires-4 : (t : ℕ) → read-test-lts.Need-read-test-requires-4 (read-test-calls t) (read-test-at t) read-test.Post
 read-test-read-test-requires-4 t c κs =
-    let s = c .before .before .before .before .before in
-    let first = subst (ReadAt walkKind (test-text t s) (test-place t s + 1)) (c .before .first2 .given .1) (c .before .before .before .read-walk .ensures) in
-    let within = laws.found-within walkKind (test-text t s) (test-place t s + 1) (c .before .first2 .given .0 .0) first in
-    (omega (arith, within .past, s .before .if1 .left, s .before .before .before .pre .0), tt)
+    let s = c .before .before .before .before .before .before in
+    let first = subst (ReadAt walkKind (test-text t s) (test-place t s + 1)) (c .before .before .first2 .given .1) (c .before .before .before .before .read-walk .ensures) in
+    let within = laws.found-within walkKind (test-text t s) (test-place t s + 1) (c .before .before .first2 .given .0 .0) first in
+    (omega (arith, within .past, s .before .if1 .left, s .before .before .before .pre .0), s .before .before .before .pre .1)
 
 read-test-inside-requires : (t : ℕ) → read-test-lts.Need-inside-requires (read-test-calls t) (read-test-at t) read-test.Post
 read-test-inside-requires t c κs = tt
 
 read-test-beside-requires-2 : (t : ℕ) → read-test-lts.Need-beside-requires-2 (read-test-calls t) (read-test-at t) read-test.Post
 read-test-beside-requires-2 t c κs =
-    let s = c .before .before .before .before .before .before .before in
-    let f = c .before .before .before .first2 .given .0 .0 in
-    let first = subst (ReadAt walkKind (test-text t s) (test-place t s + 1)) (c .before .before .before .first2 .given .1) (c .before .before .before .before .before .read-walk .ensures) in
+    let s = c .before .before .before .before .before .before .before .before in
+    let f = c .before .before .before .before .first2 .given .0 .0 in
+    let first = subst (ReadAt walkKind (test-text t s) (test-place t s + 1)) (c .before .before .before .before .first2 .given .1) (c .before .before .before .before .before .before .read-walk .ensures) in
     let within = laws.found-within walkKind (test-text t s) (test-place t s + 1) f first in
-    let second = laws.depth-within testKind (test-text t s) (f .end) (c .before .read-test4 .result) (c .before .read-test4 .ensures) in
-    (rw (c .inside .ensures) (omega (arith, within .deep, s .before .before .before .good)), omega (arith, second, s .before .before .before .good))
+    let second = laws.depth-within testKind (test-text t s) _ (c .before .read-test4 .result) (c .before .read-test4 .ensures) in
+    (rw (c .inside .ensures) (omega (arith, within .deep, s .before .if1 .left, s .before .before .before .pre .1)), omega (arith, second, within .past, s .before .if1 .left, s .before .before .before .pre .1))
 
 read-test-returns-2 : (t : ℕ) → read-test-lts.Need-returns-2 (read-test-calls t) (read-test-at t) read-test.Post
 read-test-returns-2 t c =
@@ -183,11 +192,11 @@ read-test-returns-5 t c =
 
 read-test-returns-6 : (t : ℕ) → read-test-lts.Need-returns-6 (read-test-calls t) (read-test-at t) read-test.Post
 read-test-returns-6 t c =
-    let s = c .before .before .before .before .before .before .before in
-    let f = c .before .before .before .first .given .0 .0 in
-    let first = subst (ReadAt testKind (test-text t s) (test-place t s + 1)) (c .before .before .before .first .given .1) (c .before .before .before .before .before .read-test2 .ensures) in
+    let s = c .before .before .before .before .before .before .before .before in
+    let f = c .before .before .before .before .first .given .0 .0 in
+    let first = subst (ReadAt testKind (test-text t s) (test-place t s + 1)) (c .before .before .before .before .first .given .1) (c .before .before .before .before .before .before .read-test2 .ensures) in
     subst⁻¹ (ReadAt testKind (test-text t s) (test-place t s)) (c .beside .ensures)
-    (laws.test-both (test-text t s) (test-place t s) (s .before .if1 .left) (c .before .before .before .before .before .before .match .keys4) f (c .before .read-test3 .result) first (c .before .read-test3 .ensures))
+    (laws.test-both (test-text t s) (test-place t s) (s .before .if1 .left) (c .before .before .before .before .before .before .before .match .keys4) f (c .before .read-test3 .result) first (c .before .read-test3 .ensures))
 
 read-test-returns-7 : (t : ℕ) → read-test-lts.Need-returns-7 (read-test-calls t) (read-test-at t) read-test.Post
 read-test-returns-7 t c =
@@ -197,12 +206,12 @@ read-test-returns-7 t c =
 
 read-test-returns-8 : (t : ℕ) → read-test-lts.Need-returns-8 (read-test-calls t) (read-test-at t) read-test.Post
 read-test-returns-8 t c =
-    let s = c .before .before .before .before .before .before .before .before in
-    let f = c .before .before .before .before .first2 .given .0 .0 in
-    let first = subst (ReadAt walkKind (test-text t s) (test-place t s + 1)) (c .before .before .before .before .first2 .given .1) (c .before .before .before .before .before .before .read-walk .ensures) in
+    let s = c .before .before .before .before .before .before .before .before .before in
+    let f = c .before .before .before .before .before .first2 .given .0 .0 in
+    let first = subst (ReadAt walkKind (test-text t s) (test-place t s + 1)) (c .before .before .before .before .before .first2 .given .1) (c .before .before .before .before .before .before .before .read-walk .ensures) in
     subst⁻¹ (ReadAt testKind (test-text t s) (test-place t s)) (c .beside2 .ensures)
     (subst⁻¹ (λ (x : Facts). ReadAt testKind (test-text t s) (test-place t s) (besideOf x (c .before .before .read-test4 .result))) (c .before .inside .ensures)
-    (laws.test-diamond (test-text t s) (test-place t s) (s .before .if1 .left) (c .before .before .before .before .before .before .before .match .keys5) f (c .before .before .read-test4 .result) first (c .before .before .read-test4 .ensures)))
+    (laws.test-diamond (test-text t s) (test-place t s) (s .before .if1 .left) (c .before .before .before .before .before .before .before .before .match .keys5) f (c .before .before .read-test4 .result) first (c .before .before .read-test4 .ensures)))
 
 read-test-returns-9 : (t : ℕ) → read-test-lts.Need-returns-9 (read-test-calls t) (read-test-at t) read-test.Post
 read-test-returns-9 t c =
@@ -225,7 +234,9 @@ read-walk-add-step : (t : ℕ) → read-walk-lts.Need-add-step (read-walk-calls 
 read-walk-add-step t c = omega (arith, c .before .before .before .if1 .left, c .before .before .before .before .before .good)
 
 read-walk-step-requires : (t : ℕ) → read-walk-lts.Need-step-requires (read-walk-calls t) (read-walk-at t) read-walk.Post
-read-walk-step-requires t c κs = tt
+read-walk-step-requires t c κs =
+    let s = c .before .before in
+    named-within (walk-text t s) (walk-place t s) (c .number-at .result) (s .before .before .before .pre .1) (c .number-at .ensures)
 
 read-walk-number-at-requires-2 : (t : ℕ) → read-walk-lts.Need-number-at-requires-2 (read-walk-calls t) (read-walk-at t) read-walk.Post
 read-walk-number-at-requires-2 t c κs = tt
@@ -234,16 +245,18 @@ read-walk-add-step-2 : (t : ℕ) → read-walk-lts.Need-add-step-2 (read-walk-ca
 read-walk-add-step-2 t c = omega (arith, c .before .before .before .if1 .left, c .before .before .before .before .before .good)
 
 read-walk-step-requires-2 : (t : ℕ) → read-walk-lts.Need-step-requires-2 (read-walk-calls t) (read-walk-at t) read-walk.Post
-read-walk-step-requires-2 t c κs = tt
+read-walk-step-requires-2 t c κs =
+    let s = c .before .before in
+    named-within (walk-text t s) (walk-place t s) (c .number-at2 .result) (s .before .before .before .pre .1) (c .number-at2 .ensures)
 
 read-walk-leaf-requires : (t : ℕ) → read-walk-lts.Need-leaf-requires (read-walk-calls t) (read-walk-at t) read-walk.Post
-read-walk-leaf-requires t c κs = tt
+read-walk-leaf-requires t c κs = omega (arith, c .before .before .if1 .left, c .before .before .before .before .pre .1)
 
 read-walk-leaf-requires-2 : (t : ℕ) → read-walk-lts.Need-leaf-requires-2 (read-walk-calls t) (read-walk-at t) read-walk.Post
-read-walk-leaf-requires-2 t c κs = tt
+read-walk-leaf-requires-2 t c κs = omega (arith, c .before .before .if1 .left, c .before .before .before .before .pre .1)
 
 read-walk-read-walk-requires : (t : ℕ) → read-walk-lts.Need-read-walk-requires (read-walk-calls t) (read-walk-at t) read-walk.Post
-read-walk-read-walk-requires t c κs = (omega (arith, c .before .before .if1 .left, c .before .before .before .before .pre .0), tt)
+read-walk-read-walk-requires t c κs = (omega (arith, c .before .before .if1 .left, c .before .before .before .before .pre .0), c .before .before .before .before .pre .1)
 
 read-walk-enum-told : (t : ℕ) → read-walk-lts.Need-enum-told (read-walk-calls t) (read-walk-at t) read-walk.Post
 read-walk-enum-told t c = search needs
@@ -251,48 +264,51 @@ read-walk-enum-told t c = search needs
 read-walk-enum-known-first : (t : ℕ) → read-walk-lts.Need-enum-known-first (read-walk-calls t) (read-walk-at t) read-walk.Post
 read-walk-enum-known-first t c = search needs
 
+read-walk-cast-middle : (t : ℕ) → read-walk-lts.Need-cast-middle (read-walk-calls t) (read-walk-at t) read-walk.Post
+read-walk-cast-middle t c = search needs
+
 read-walk-read-walk-requires-2 : (t : ℕ) → read-walk-lts.Need-read-walk-requires-2 (read-walk-calls t) (read-walk-at t) read-walk.Post
 read-walk-read-walk-requires-2 t c κs =
-    let s = c .before .before .before .before .before in
-    let first = subst (ReadAt walkKind (walk-text t s) (walk-place t s + 1)) (c .before .first .given .1) (c .before .before .before .read-walk .ensures) in
-    let within = laws.found-within walkKind (walk-text t s) (walk-place t s + 1) (c .before .first .given .0 .0) first in
-    (omega (arith, within .past, s .before .if1 .left, s .before .before .before .pre .0), tt)
+    let s = c .before .before .before .before .before .before in
+    let first = subst (ReadAt walkKind (walk-text t s) (walk-place t s + 1)) (c .before .before .first .given .1) (c .before .before .before .before .read-walk .ensures) in
+    let within = laws.found-within walkKind (walk-text t s) (walk-place t s + 1) (c .before .before .first .given .0 .0) first in
+    (omega (arith, within .past, s .before .if1 .left, s .before .before .before .pre .0), s .before .before .before .pre .1)
 
 read-walk-beside-requires : (t : ℕ) → read-walk-lts.Need-beside-requires (read-walk-calls t) (read-walk-at t) read-walk.Post
 read-walk-beside-requires t c κs =
-    let s = c .before .before .before .before .before .before in
-    let f = c .before .before .first .given .0 .0 in
-    let first = subst (ReadAt walkKind (walk-text t s) (walk-place t s + 1)) (c .before .before .first .given .1) (c .before .before .before .before .read-walk .ensures) in
+    let s = c .before .before .before .before .before .before .before in
+    let f = c .before .before .before .first .given .0 .0 in
+    let first = subst (ReadAt walkKind (walk-text t s) (walk-place t s + 1)) (c .before .before .before .first .given .1) (c .before .before .before .before .before .read-walk .ensures) in
     let within = laws.found-within walkKind (walk-text t s) (walk-place t s + 1) f first in
-    let second = laws.depth-within walkKind (walk-text t s) (f .end) (c .read-walk2 .result) (c .read-walk2 .ensures) in
-    (omega (arith, within .deep, s .before .before .before .good), omega (arith, second, s .before .before .before .good))
+    let second = laws.depth-within walkKind (walk-text t s) _ (c .read-walk2 .result) (c .read-walk2 .ensures) in
+    (omega (arith, within .deep, s .before .if1 .left, s .before .before .before .pre .1), omega (arith, second, within .past, s .before .if1 .left, s .before .before .before .pre .1))
 
 read-walk-read-walk-requires-3 : (t : ℕ) → read-walk-lts.Need-read-walk-requires-3 (read-walk-calls t) (read-walk-at t) read-walk.Post
-read-walk-read-walk-requires-3 t c κs = (omega (arith, c .before .before .if1 .left, c .before .before .before .before .pre .0), tt)
+read-walk-read-walk-requires-3 t c κs = (omega (arith, c .before .before .if1 .left, c .before .before .before .before .pre .0), c .before .before .before .before .pre .1)
 
 read-walk-above-requires : (t : ℕ) → read-walk-lts.Need-above-requires (read-walk-calls t) (read-walk-at t) read-walk.Post
 read-walk-above-requires t c κs =
     let s = c .before .before in
     omega
-    (arith, laws.depth-within walkKind (walk-text t s) (walk-place t s + 1) (c .read-walk3 .result) (c .read-walk3 .ensures), s .before .before .before .good)
+    (arith, laws.depth-within walkKind (walk-text t s) (walk-place t s + 1) (c .read-walk3 .result) (c .read-walk3 .ensures), s .before .if1 .left, s .before .before .before .pre .1)
 
 read-walk-read-test-requires : (t : ℕ) → read-walk-lts.Need-read-test-requires (read-walk-calls t) (read-walk-at t) read-walk.Post
-read-walk-read-test-requires t c κs = (omega (arith, c .before .before .if1 .left, c .before .before .before .before .pre .0), tt)
+read-walk-read-test-requires t c κs = (omega (arith, c .before .before .if1 .left, c .before .before .before .before .pre .0), c .before .before .before .before .pre .1)
 
 read-walk-above-requires-2 : (t : ℕ) → read-walk-lts.Need-above-requires-2 (read-walk-calls t) (read-walk-at t) read-walk.Post
 read-walk-above-requires-2 t c κs =
     let s = c .before .before in
     omega
-    (arith, laws.depth-within testKind (walk-text t s) (walk-place t s + 1) (c .read-test .result) (c .read-test .ensures), s .before .before .before .good)
+    (arith, laws.depth-within testKind (walk-text t s) (walk-place t s + 1) (c .read-test .result) (c .read-test .ensures), s .before .if1 .left, s .before .before .before .pre .1)
 
 read-walk-read-walk-requires-4 : (t : ℕ) → read-walk-lts.Need-read-walk-requires-4 (read-walk-calls t) (read-walk-at t) read-walk.Post
-read-walk-read-walk-requires-4 t c κs = (omega (arith, c .before .before .if1 .left, c .before .before .before .before .pre .0), tt)
+read-walk-read-walk-requires-4 t c κs = (omega (arith, c .before .before .if1 .left, c .before .before .before .before .pre .0), c .before .before .before .before .pre .1)
 
 read-walk-above-requires-3 : (t : ℕ) → read-walk-lts.Need-above-requires-3 (read-walk-calls t) (read-walk-at t) read-walk.Post
 read-walk-above-requires-3 t c κs =
     let s = c .before .before in
     omega
-    (arith, laws.depth-within walkKind (walk-text t s) (walk-place t s + 1) (c .read-walk4 .result) (c .read-walk4 .ensures), s .before .before .before .good)
+    (arith, laws.depth-within walkKind (walk-text t s) (walk-place t s + 1) (c .read-walk4 .result) (c .read-walk4 .ensures), s .before .if1 .left, s .before .before .before .pre .1)
 
 read-walk-returns-2 : (t : ℕ) → read-walk-lts.Need-returns-2 (read-walk-calls t) (read-walk-at t) read-walk.Post
 read-walk-returns-2 t c =
@@ -326,11 +342,11 @@ read-walk-returns-6 t c =
 
 read-walk-returns-7 : (t : ℕ) → read-walk-lts.Need-returns-7 (read-walk-calls t) (read-walk-at t) read-walk.Post
 read-walk-returns-7 t c =
-    let s = c .before .before .before .before .before .before .before in
-    let f = c .before .before .before .first .given .0 .0 in
-    let first = subst (ReadAt walkKind (walk-text t s) (walk-place t s + 1)) (c .before .before .before .first .given .1) (c .before .before .before .before .before .read-walk .ensures) in
+    let s = c .before .before .before .before .before .before .before .before in
+    let f = c .before .before .before .before .first .given .0 .0 in
+    let first = subst (ReadAt walkKind (walk-text t s) (walk-place t s + 1)) (c .before .before .before .before .first .given .1) (c .before .before .before .before .before .before .read-walk .ensures) in
     subst⁻¹ (ReadAt walkKind (walk-text t s) (walk-place t s)) (c .beside .ensures)
-    (laws.walk-pair (walk-text t s) (walk-place t s) (s .before .if1 .left) (c .before .before .before .before .before .before .match .keys5) f (c .before .read-walk2 .result) first (c .before .read-walk2 .ensures))
+    (laws.walk-pair (walk-text t s) (walk-place t s) (s .before .if1 .left) (c .before .before .before .before .before .before .before .match .keys5) f (c .before .read-walk2 .result) first (c .before .read-walk2 .ensures))
 
 read-walk-returns-8 : (t : ℕ) → read-walk-lts.Need-returns-8 (read-walk-calls t) (read-walk-at t) read-walk.Post
 read-walk-returns-8 t c =
@@ -373,11 +389,13 @@ pub +read-test+read-walk-spec : {M : Type 1} → statement M
     (read-test-read-test-requires-2 t)
     (read-test-enum-told t)
     (read-test-enum-known-first t)
+    (read-test-cast-middle t)
     (read-test-read-test-requires-3 t)
     (read-test-beside-requires t)
     (read-test-read-walk-requires t)
     (read-test-enum-told-2 t)
     (read-test-enum-known-first-2 t)
+    (read-test-cast-middle-2 t)
     (read-test-read-test-requires-4 t)
     (read-test-inside-requires t)
     (read-test-beside-requires-2 t)
@@ -404,6 +422,7 @@ pub +read-test+read-walk-spec : {M : Type 1} → statement M
     (read-walk-read-walk-requires t)
     (read-walk-enum-told t)
     (read-walk-enum-known-first t)
+    (read-walk-cast-middle t)
     (read-walk-read-walk-requires-2 t)
     (read-walk-beside-requires t)
     (read-walk-read-walk-requires-3 t)

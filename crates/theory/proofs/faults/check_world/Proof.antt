@@ -5,10 +5,9 @@ use borrow.Author.Needs.{needs}
 use denote.Ref.{now}
 use Rattle.laws.proofs.Truth.{off-on}
 use Rattle.meaning.specs.Refusal.{Row, _when_, BadLog}
-use Rattle.meaning.proofs.Refusal.{here, passes, accepts}
+use Rattle.meaning.proofs.Refusal.{here, passes, accepts, refused-first, refused-second, accepted-both}
 use Rattle.theory.specs.Rows.{theoryRows}
 use Rattle.theory.specs.Check.{Settled}
-use Rattle.theory.proofs.Settle.{refused-first, refused-second, accepted-both}
 use Rattle.theory.proofs.faults.check_world.Statement.{statement}
 use Rattle.theory.proofs.faults.check_world.Tie as tie
 

@@ -1,0 +1,74 @@
+//! A case: a theory, a log and one question, and its answer by each of the implementations.
+
+#[derive(Clone, Debug)]
+pub struct Theory {
+    pub fluents: usize,
+    pub start: u32,
+    /// Need, ban, put, drop, four masks an action.
+    pub masks: Vec<u32>,
+}
+
+#[derive(Clone, Debug)]
+pub enum Ask {
+    /// A test at (then, the log's end).
+    Verdict { test: String, then: usize },
+    /// A walk from `then`, now at the log's end.
+    Reach { walk: String, then: usize },
+    Finish { job: String, more: usize },
+}
+
+#[derive(Clone, Debug)]
+pub struct Case {
+    pub name: String,
+    pub theory: Theory,
+    pub log: Vec<u8>,
+    pub ask: Ask,
+}
+
+/// What a call says, folded into words: a verdict, a set with its count and earliest, or a length with the sequence.
+pub type Answer = Result<[u64; 3], u8>;
+
+impl Theory {
+    pub fn actions(&self) -> usize {
+        self.masks.len() / 4
+    }
+}
+
+fn told(count: usize, out: &[u8; 6]) -> [u64; 3] {
+    [count as u64, out.iter().fold(0, |all, &a| all << 8 | u64::from(a)), 0]
+}
+
+/// The two crates have the same calls; the plain one has them a second time, quicker.
+macro_rules! engine {
+    ($name:ident, $of:ident, $verdict:ident, $reach:ident, $finish:ident) => {
+        pub fn $name(c: &Case) -> Answer {
+            let t = &c.theory;
+            let job = $of::Job { fluents: t.fluents, actions: t.actions(), start: t.start, masks: &t.masks, log: &c.log };
+            let now = c.log.len();
+            match &c.ask {
+                Ask::Verdict { test, then } => job.$verdict(test.as_bytes(), *then, now).map(|yes| [u64::from(yes), 0, 0]),
+                Ask::Reach { walk, then } => {
+                    job.$reach(walk.as_bytes(), *then, now).map(|r| [r.set, u64::from(r.count), u64::from(r.earliest)])
+                }
+                Ask::Finish { job: text, more } => {
+                    let mut out = [0; 6];
+                    job.$finish(text.as_bytes(), *more, &mut out).map(|count| told(count, &out))
+                }
+            }
+        }
+    };
+}
+
+engine!(ours, wyndhopper, verdict, reach, finish);
+engine!(plain, plain, verdict, reach, finish);
+engine!(quick, plain, quick_verdict, quick_reach, quick_finish);
+
+/// A sheet's text.
+pub fn sheet(t: &Theory, log: &[u8], ask: &str, run: &str, more: usize) -> String {
+    let mut s = format!("sheet=1\nfluents={:02}\nactions={:02}\nstart={:08x}\n", t.fluents, t.actions(), t.start);
+    for m in t.masks.chunks(4) {
+        s += &format!("act={:08x},{:08x},{:08x},{:08x}\n", m[0], m[1], m[2], m[3]);
+    }
+    let steps: String = log.iter().map(|a| format!("{a:02}")).collect();
+    s + &format!("log={steps}\nask={ask}\nrun={run}\nmore={more}\n")
+}

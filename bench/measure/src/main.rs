@@ -1,0 +1,28 @@
+//! Measures the proved library: `measure compare`, `measure growth`, `measure stack`, `measure interpreter FOLDER`. Each prints lines of columns with tabs
+//! between, for the scripts beside it.
+mod case;
+mod clock;
+mod compare;
+mod growth;
+mod interpreter;
+mod painted;
+mod prolog;
+mod shapes;
+mod stack;
+mod texts;
+mod theories;
+
+fn main() {
+    let args: Vec<String> = std::env::args().skip(1).collect();
+    let words: Vec<&str> = args.iter().map(String::as_str).collect();
+    match words[..] {
+        ["compare"] => compare::run(),
+        ["growth"] => growth::run(),
+        ["stack"] => stack::run(),
+        ["interpreter", folder] => interpreter::run(folder.as_ref()),
+        _ => {
+            eprintln!("measure compare | growth | stack | interpreter FOLDER");
+            std::process::exit(2);
+        }
+    }
+}

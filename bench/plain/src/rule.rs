@@ -1,0 +1,112 @@
+//! The reader of a rule's text: refusals 6 to 9, and where each rule of it ends, in one pass.
+use crate::Refusal;
+
+#[derive(Clone, Copy, Debug, PartialEq, Eq)]
+pub enum Kind {
+    Test,
+    Walk,
+    Job,
+}
+
+/// A rule that was checked.
+pub struct Rule<'t> {
+    pub text: &'t [u8],
+    pub ends: [u8; 256],
+}
+
+/// What is known of the text read so far.
+struct Reader<'t> {
+    text: &'t [u8],
+    ends: [u8; 256],
+    actions: usize,
+    fluents: usize,
+    depth: usize,
+    backward: bool,
+}
+
+/// No rule of its kind stands there.
+struct NoRule;
+
+impl<'t> Rule<'t> {
+    pub fn read(text: &'t [u8], kind: Kind, fluents: usize, actions: usize) -> Result<Self, Refusal> {
+        if text.len() > 255 {
+            return Err(6);
+        }
+        let mut r = Reader { text, ends: [0; 256], actions: 0, fluents: 0, depth: 0, backward: false };
+        let end = if kind == Kind::Test { r.test(0, 1) } else { r.walk(0, 1, true) };
+        if end.map_err(|NoRule| 6)? != text.len() {
+            return Err(6);
+        }
+        if r.actions > actions || r.fluents > fluents {
+            return Err(7);
+        }
+        if r.depth > 24 {
+            return Err(8);
+        }
+        if kind == Kind::Job && r.backward {
+            return Err(9);
+        }
+        Ok(Rule { text, ends: r.ends })
+    }
+}
+
+impl Reader<'_> {
+    fn number(&self, at: usize) -> Result<usize, NoRule> {
+        match self.text.get(at..at + 2) {
+            Some(&[tens @ b'0'..=b'9', ones @ b'0'..=b'9']) => Ok(usize::from(tens - b'0') * 10 + usize::from(ones - b'0')),
+            _ => Err(NoRule),
+        }
+    }
+
+    fn ended(&mut self, at: usize, end: usize) -> Result<usize, NoRule> {
+        self.ends[at & 255] = end as u8;
+        Ok(end)
+    }
+
+    fn leaf(&mut self, at: usize, end: usize, depth: usize) -> Result<usize, NoRule> {
+        self.depth = self.depth.max(depth);
+        self.ended(at, end)
+    }
+
+    /// The walk at a place; `out` where no `<` stands around it.
+    fn walk(&mut self, at: usize, depth: usize, out: bool) -> Result<usize, NoRule> {
+        let sign = *self.text.get(at).ok_or(NoRule)?;
+        self.backward |= out && matches!(sign, b'-' | b'r' | b'u');
+        let end = match sign {
+            b'a' | b'r' => {
+                self.actions = self.actions.max(self.number(at + 1)? + 1);
+                return self.leaf(at, at + 3, depth);
+            }
+            b'n' | b'u' => return self.leaf(at, at + 1, depth),
+            b';' | b'|' => {
+                let second = self.walk(at + 1, depth + 1, out)?;
+                self.walk(second, depth + 1, out)?
+            }
+            b'*' | b'-' => self.walk(at + 1, depth + 1, out)?,
+            b'?' => self.test(at + 1, depth + 1)?,
+            _ => return Err(NoRule),
+        };
+        self.ended(at, end)
+    }
+
+    fn test(&mut self, at: usize, depth: usize) -> Result<usize, NoRule> {
+        let end = match *self.text.get(at).ok_or(NoRule)? {
+            b'1' => return self.leaf(at, at + 1, depth),
+            b'f' => {
+                self.fluents = self.fluents.max(self.number(at + 1)? + 1);
+                return self.leaf(at, at + 3, depth);
+            }
+            b'!' => self.test(at + 1, depth + 1)?,
+            b'&' => {
+                let second = self.test(at + 1, depth + 1)?;
+                self.test(second, depth + 1)?
+            }
+            b'<' => {
+                let second = self.walk(at + 1, depth + 1, false)?;
+                self.test(second, depth + 1)?
+            }
+            _ => return Err(NoRule),
+        };
+        self.ended(at, end)
+    }
+}

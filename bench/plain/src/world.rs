@@ -1,0 +1,81 @@
+//! The theory and the log: refusals 3 to 5, what an action needs and does, and the log transposed into words.
+use crate::Refusal;
+
+pub const LOG_LIMIT: usize = 63;
+
+/// A theory and a log that were checked.
+pub struct World<'a> {
+    pub start: u32,
+    pub masks: &'a [u32],
+    pub log: &'a [u8],
+}
+
+/// The positions up to now.
+pub fn up_to(now: usize) -> u64 {
+    u64::MAX >> (63 - now)
+}
+
+/// Every need bit is on and every ban bit off.
+pub fn possible(m: &[u32], state: u32) -> bool {
+    m[0] & state == m[0] && m[1] & state == 0
+}
+
+/// What put names is on, and of the rest what was on and drop does not name.
+pub fn after(m: &[u32], state: u32) -> u32 {
+    m[2] | state & !m[3]
+}
+
+impl<'a> World<'a> {
+    pub fn checked(fluents: usize, actions: usize, start: u32, masks: &'a [u32], log: &'a [u8]) -> Result<Self, Refusal> {
+        if fluents > 32 || actions < 1 || actions > 64 || masks.len() != 4 * actions {
+            return Err(3);
+        }
+        let named = masks.iter().fold(start, |all, m| all | m);
+        if u64::from(named) >> fluents != 0 {
+            return Err(4);
+        }
+        if log.len() > LOG_LIMIT || log.iter().any(|&a| usize::from(a) >= actions) {
+            return Err(5);
+        }
+        Ok(World { start, masks, log })
+    }
+
+    /// The four masks of an action.
+    pub fn act(&self, a: usize) -> &'a [u32] {
+        &self.masks[4 * a..4 * a + 4]
+    }
+}
+
+/// The log, transposed: bit p of a word is position p.
+pub struct Tables {
+    /// The positions whose step is this action and was possible.
+    pub done: [u64; 64],
+    /// The positions at which this fluent is on.
+    pub lit: [u64; 32],
+    /// The state at the log's end.
+    pub last: u32,
+}
+
+impl Tables {
+    pub fn over(world: &World, log: &[u8]) -> Self {
+        let mut t = Tables { done: [0; 64], lit: [0; 32], last: 0 };
+        t.arrive(world.start, 0);
+        for (p, &a) in log.iter().enumerate() {
+            let m = world.act(usize::from(a));
+            t.done[usize::from(a & 63)] |= u64::from(possible(m, t.last)) << p;
+            t.arrive(after(m, t.last), p + 1);
+        }
+        t
+    }
+
+    /// The state at position p: each fluent that changed changes from p onwards, and no position past now is asked for.
+    #[inline]
+    pub fn arrive(&mut self, state: u32, p: usize) {
+        let mut left = self.last ^ state;
+        while left != 0 {
+            self.lit[left.trailing_zeros() as usize] ^= !0 << p;
+            left &= left - 1;
+        }
+        self.last = state;
+    }
+}

@@ -1,0 +1,99 @@
+"""Makes the tables from what was measured, prints them, and puts each in its place in docs/BENCHMARKS.md (between `<!-- table NAME -->` and `<!-- end -->`)."""
+import re
+import statistics
+
+from goals import goals
+from lines import DOCS, figures, growth, lines, ratio
+
+TARGET = DOCS / "BENCHMARKS.md"
+
+
+def table(head, rows):
+    """Columns of numbers stand to the right."""
+    marks = ["---:" if "µs" in h or "/" in h or "bytes" in h else "---" for h in head]
+    cells = [head, marks] + [[str(c).replace("|", "\\|") for c in row] for row in rows]
+    return "\n".join("| " + " | ".join(row) + " |" for row in cells)
+
+
+def code(rule):
+    return "`" + (rule if len(rule) <= 40 else rule[:36] + "..") + "`"
+
+
+def against_plain(which):
+    rows = [(r[1], r[2], *map(float, r[3:])) for r in lines("compare.tsv") if r[0] == which]
+    head = ["Question", "Answer", "Ours, µs", "Plain, µs", "Ours / plain", "Quick plain, µs", "Ours / quick"]
+    return table(head, [[n, a, figures(o), figures(p), ratio(o, p), figures(q), ratio(o, q)] for n, a, o, p, q in rows])
+
+
+def sheets():
+    rows = [r[1:] for r in lines("compare.tsv") if r[0] == "sheet"]
+    return table(["Sheet", "Length", "Ours, µs"], [[n, size, figures(float(t))] for n, size, t in rows])
+
+
+def interpreter():
+    rows = []
+    for _, name, rule, ours, verdict, theirs in lines("interpreter.tsv"):
+        over = theirs == "over"
+        time = "over 20 s" if over else figures(float(theirs))
+        times = ratio(20e6 if over else float(theirs), float(ours))
+        rows.append([name, code(rule), verdict, figures(float(ours)), time, ("over " if over else "") + times])
+    return table(["Sheet", "Rule", "Verdict", "Ours, µs", "Interpreter, µs", "Interpreter / ours"], rows)
+
+
+def grown():
+    rows = []
+    for plot, series in growth().items():
+        for name, points in series.items():
+            (x, first, _), (y, last, _) = points[0], points[-1]
+            middle = statistics.median(o / p for _, o, p in points)
+            longest = max(o for _, o, _ in points)
+            rows.append([f"{plot}: {name}", f"{x} to {y}", figures(first), figures(last), figures(longest), f"{middle:.2f}"])
+    head = ["Series", "From, to", "First, µs", "Last, µs", "Longest, µs", "Ours / plain, median"]
+    return table(head, rows)
+
+
+def stack():
+    taken = {(word, call): (int(size), rule) for _, word, call, size, rule in lines("stack.tsv")}
+    calls = sorted({call.split(",")[0] for _, call in taken}, key=["verdict", "reach", "finish", "read_rule", "normal", "answer"].index)
+    rows = []
+    for call in calls:
+        accepted, refused = taken["accepted", call], taken["refused", call]
+        plain = taken.get(("accepted", call + ", plain"))
+        beside = f"{plain[0]:,}" if plain else ""
+        rows.append([f"`{call}`", f"{accepted[0]:,}", code(accepted[1]), beside, f"{refused[0]:,}", code(refused[1])])
+    head = ["Call", "Accepted, bytes", "Its rule", "Plain, bytes", "Refused, bytes", "Its text"]
+    return table(head, rows)
+
+
+def machine():
+    return "\n".join(f"- {what}: {value}" for what, value in lines("machine.tsv"))
+
+
+TABLES = {
+    "verdict": lambda: against_plain("verdict"),
+    "reach": lambda: against_plain("reach"),
+    "finish": lambda: against_plain("finish"),
+    "interpreter": interpreter,
+    "sheets": sheets,
+    "growth": grown,
+    "stack": stack,
+    "machine": machine,
+    "goals": lambda: table(["Goal", "Measured", "Where it is missed"], goals()),
+}
+
+
+def main():
+    page = TARGET.read_text()
+    for name, make in TABLES.items():
+        if name == "interpreter" and not lines("interpreter.tsv"):
+            continue
+        made = make()
+        print(f"\n{name}\n\n{made}")
+        place = re.compile(rf"(<!-- table {name} -->\n).*?(\n<!-- end -->)", re.S)
+        page, found = place.subn(lambda m: m.group(1) + made + m.group(2), page)
+        if not found:
+            raise SystemExit(f"docs/BENCHMARKS.md has no place for the table {name}")
+    TARGET.write_text(page)
+
+
+main()

@@ -1,0 +1,37 @@
+-- A number of refusal names one case, and none has the number 0. Knows the enum of refusals alone.
+use mathlib.Core.Path.{_≡_, refl, sym, ap, _∙_}
+use mathlib.Core.List.{List, [], _∷_}
+use Prim.Native.Nat.{ℕ}
+use native.Mathlib.Omega.{arith}
+use lib.ListN.{getD}
+use Rattle.refusal.specs.declared.Refusal.{Refusal}
+use Rattle.refusal.specs.declared.Refusal.the-variants.{SheetTooLong, BadLine, BadNumber, LacksFluent, BadLog, BadRule, LacksName, TooDeep, BackwardJob, BadPosition, NoFinish, ShortOutput}
+use Rattle.refusal.specs.Number.{numberOf}
+
+-- the cases in the order of their numbers; none has the number 0
+cases : List Refusal
+cases = SheetTooLong ∷ (SheetTooLong ∷ (BadLine ∷ (BadNumber ∷ (LacksFluent ∷ (BadLog ∷ (BadRule ∷ (LacksName ∷ (TooDeep ∷ (BackwardJob ∷ (BadPosition ∷ (NoFinish ∷ (ShortOutput ∷ []))))))))))))
+
+case-of : (r : Refusal) → getD cases (numberOf r) SheetTooLong ≡ r
+unfolding cases
+case-of SheetTooLong = refl
+case-of BadLine = refl
+case-of BadNumber = refl
+case-of LacksFluent = refl
+case-of BadLog = refl
+case-of BadRule = refl
+case-of LacksName = refl
+case-of TooDeep = refl
+case-of BackwardJob = refl
+case-of BadPosition = refl
+case-of NoFinish = refl
+case-of ShortOutput = refl
+
+pub one-number : (r s : Refusal) → numberOf r ≡ numberOf s → r ≡ s
+one-number r s e = sym (case-of r) ∙ ap (λ (n : ℕ). getD cases n SheetTooLong) e ∙ case-of s
+
+pub some-number : (r : Refusal) → numberOf r ≡ 0 → ⊥
+unfolding cases
+some-number r e =
+    let first : numberOf r ≡ 1 = ap numberOf (sym (case-of r) ∙ ap (λ (n : ℕ). getD cases n SheetTooLong) e) in
+    omega arith
