@@ -7,17 +7,22 @@ mod respond; // respond.rt: the answer to an accepted sheet
 
 use refusal::number;
 use respond::respond;
+use sheet::LOG_ROOM;
+use sheet::MASKS_ROOM;
 use sheet::SheetAnswer;
 use sheet::part;
 use sheet::read_sheet;
 use theory::STRIDE;
 
+// Every answer fits in so many bytes.
+pub const ANSWER_ROOM: usize = 64;
+
 // The answer to a sheet, from the front of the output, the rest of which keeps its content; how many bytes it has.
-pub fn answer(sheet: &[u8], out: &mut [u8; 64]) -> usize
+pub fn answer(sheet: &[u8], out: &mut [u8; ANSWER_ROOM]) -> usize
     ensures { λ r. ⌜ Told (now (sheet .entry)) (now (out .entry)) (now (out .exit)) r ⌝ }
 {
-    let mut masks = [0u32; 256];
-    let mut log = [0u8; 64];
+    let mut masks = [0u32; MASKS_ROOM];
+    let mut log = [0u8; LOG_ROOM];
     match read_sheet(sheet, &mut masks, &mut log) {
         SheetAnswer::Faulty(f) => {
             let why = f.refusal;

@@ -6,6 +6,7 @@ mod build; // build.rt: the sheet and the answer of a row
 
 ghost use Prim.Native.Nat.{_≤_};
 ghost use lib.ListN.{length};
+use answer::ANSWER_ROOM;
 use libc::STDIN_FILENO;
 use libc::STDOUT_FILENO;
 
@@ -26,7 +27,7 @@ fn row(table: &[u8], name: usize, named: usize, first: usize, end: usize)
 {
     let mut sheet = [0u8; 4096];
     let n = build::sheet(table, first, end, &mut sheet);
-    let mut out = [0u8; 64];
+    let mut out = [0u8; ANSWER_ROOM];
     let count = answer::answer(&sheet[..n], &mut out);
     let mut want = [0u8; 4096];
     let m = build::answer(table, first, end, &mut want);

@@ -10,7 +10,10 @@ mod rules; // rules.rt: the lines that are rules
 mod steps; // steps.rt: the log line
 mod line; // line.rt: a line with its key, and the lines that say a number
 
+use positions::PositionSet;
 use refusal::Refusal;
+use theory::ACTION_LIMIT;
+use theory::STRIDE;
 
 // What a run of digits is.
 pub enum Digits {
@@ -73,12 +76,21 @@ pub enum SheetAnswer {
     Read(Parsed),
 }
 
-// Document 01: the longest sheet; room for the masks of 64 actions, and for a log of 63 steps.
+// Document 01: the longest sheet.
 pub const SHEET_LIMIT: usize = 3263;
+
+// Room for the masks of as many actions as there may be, and for the steps of the longest log.
+pub const MASKS_ROOM: usize = STRIDE * ACTION_LIMIT;
+
+pub const LOG_ROOM: usize = PositionSet::PLACES;
 
 // Reads a sheet: the first faulty line with its refusal, or what the sheet says. Its masks and its log go to the front of the lent tables, which a
 // refusal leaves as they were.
-pub fn read_sheet(sheet: &[u8], masks: &mut [u32; 256], log: &mut [u8; 64]) -> SheetAnswer
+pub fn read_sheet(
+    sheet: &[u8],
+    masks: &mut [u32; MASKS_ROOM],
+    log: &mut [u8; LOG_ROOM],
+) -> SheetAnswer
     ensures { λ r. ⌜ SheetAnswered (now (sheet .entry)) (now (masks .entry)) (now (log .entry)) r (now (masks .exit)) (now (log .exit)) ⌝ }
 {
     if SHEET_LIMIT < sheet.len() {

@@ -8,7 +8,9 @@ use crate::Cursor;
 use crate::Fault;
 use crate::Head;
 use crate::HeadAnswer;
+use crate::LOG_ROOM;
 use crate::LineAnswer;
+use crate::MASKS_ROOM;
 use crate::Parsed;
 use crate::SheetAnswer;
 use crate::Stretch;
@@ -169,7 +171,11 @@ pub(crate) fn read_last(sheet: &[u8], head: Head, above: Cursor, log: &mut [u8])
 }
 
 // The lines from the top: the first faulty one, or what they say.
-pub(crate) fn read_lines(sheet: &[u8], masks: &mut [u32; 256], log: &mut [u8; 64]) -> SheetAnswer
+pub(crate) fn read_lines(
+    sheet: &[u8],
+    masks: &mut [u32; MASKS_ROOM],
+    log: &mut [u8; LOG_ROOM],
+) -> SheetAnswer
     ensures { λ r. ⌜ LinesFound (now (sheet .entry)) (now (masks .entry)) (now (log .entry)) r (now (masks .exit)) (now (log .exit)) ⌝ }
 {
     match read_head(sheet) {

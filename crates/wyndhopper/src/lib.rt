@@ -7,6 +7,7 @@ ghost use Rattle.wyndhopper.specs.Exported.{ReachExported, VerdictExport
 
 mod kinds; // kinds.rt: a kind as a number
 
+use answer::ANSWER_ROOM;
 use ask::ReachAnswer;
 use ask::VerdictAnswer;
 use finish::FinishAnswer;
@@ -163,7 +164,7 @@ pub extern "C" fn wyh_normal(
 
 // What the program jobsheet prints for a sheet, at the front of the output.
 #[no_mangle]
-pub extern "C" fn wyh_answer(sheet: &[u8], out: &mut [u8; 64]) -> usize
+pub extern "C" fn wyh_answer(sheet: &[u8], out: &mut [u8; ANSWER_ROOM]) -> usize
     ensures { λ r. ⌜ Told (now (sheet .entry)) (now (out .entry)) (now (out .exit)) r ⌝ }
 {
     answer::answer(sheet, out)
