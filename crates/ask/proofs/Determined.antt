@@ -1,11 +1,15 @@
--- Reach and verdict: any two answers that their contracts allow are equal.
+-- Any two answers that the contracts of this crate allow are equal.
 use mathlib.Core.Path.{_≡_, refl, sym, ap, subst, _∙_}
 use mathlib.Core.Logic.{_⊎_, inl, inr}
 use mathlib.Core.Bool.{Bool, true, false, true≢false}
 use mathlib.Core.List.{List, []}
 use mathlib.Core.Option.{Option, some}
-use Prim.Native.Nat.{ℕ}
+use Prim.Native.Nat.{ℕ, _^_, _<_}
+use native.Mathlib.Decide.{decLt}
 use native.Mathlib.Omega.{arith}
+use Rattle.laws.specs.Bit.{on}
+use Rattle.laws.proofs.On.{on-high, same-bits}
+use Rattle.meaning.specs.Limits.{actionLimit}
 use Rattle.meaning.specs.Theory.{World}
 use Rattle.meaning.specs.Rule.{Kind, Walk, Test, ofWalk, ofTest, walkKind, testKind, Opens}
 use Rattle.meaning.specs.Reach.{Reached as IsReached}
@@ -15,9 +19,7 @@ use Rattle.meaning.proofs.Refusal.{refused-unique, refused-not-accepted}
 use Rattle.laws.proofs.Truth.{same-truth}
 use Rattle.theory.specs.World.{worldOf}
 use Rattle.refusal.proofs.Numbers.{one-number, some-number}
-use Rattle.ask.specs.Image.{Set, UpTo}
-use Rattle.rule.specs.Standing.{Stands}
-use Rattle.ask.specs.Found.{Told, WalkFound, TestFound}
+use Rattle.ask.specs.Asked.{JobHere, EndTold, AskTold}
 use Rattle.ask.specs.declared.ReachAnswer.{ReachAnswer}
 use Rattle.ask.specs.declared.ReachAnswer.the-variants.{Refused, Reached}
 use Rattle.ask.specs.declared.VerdictAnswer.{VerdictAnswer}
@@ -76,18 +78,21 @@ module _ (fluents actions start : ℕ) (masks log bytes : List ℕ) (then now : 
       let e : y .test ≡ x .test = one-test (y .test) (x .test) (y .spells) (x .spells) in
       same-verdict a b (x .none ∙ sym (y .none)) (one-verdict w (x .test) then now (x .told) (subst (λ (t : Test). Verdict w t then now (verdictGiven b)) e (y .told)))
 
--- The evaluator's own functions: where the tables describe some world, the set lies at or before now and a rule stands at the place, two answers hold the
--- same positions, so they are one set.
-pub walk-determined : {bytes : List ℕ} {at : ℕ} {back : Bool} {done lit : List ℕ} {now : ℕ} {from a b : Set} (w : World) → Told w done lit now → UpTo now from → (x : Walk)
-    → Stands bytes at (ofWalk x) → WalkFound bytes at back done lit now from a → WalkFound bytes at back done lit now from b → (q : ℕ) → a q ≡ b q
-walk-determined {a = a} {b = b} w told low x h f g q =
-    let i = f .found w told low x h in
-    let j = g .found w told low x h in
-    same-truth (a q) (b q) (λ k. j .each q .1 (i .each q .0 k)) (λ k. i .each q .1 (j .each q .0 k))
+-- What a job has come to, and what it asks for: its text stands there, so two answers are one.
+module _ {start : ℕ} {masks log job ends : List ℕ} (here : JobHere masks log job ends) where
+  pub ended-determined : (a b : Bool) → EndTold start masks log job a → EndTold start masks log job b → a ≡ b
+  ended-determined a b f g =
+      let x = here .stands in
+      let i = f .each 0 0 (x .walk) (x .stands) in
+      let j = g .each 0 0 (x .walk) (x .stands) in
+      same-truth a b (λ k. j .1 (i .0 k)) (λ k. i .1 (j .0 k))
 
-pub test-determined : {bytes : List ℕ} {at : ℕ} {done lit : List ℕ} {now : ℕ} {among a b : Set} (w : World) → Told w done lit now → UpTo now among → (t : Test)
-    → Stands bytes at (ofTest t) → TestFound bytes at done lit now among a → TestFound bytes at done lit now among b → (q : ℕ) → a q ≡ b q
-test-determined {a = a} {b = b} w told low t h f g q =
-    let i = f .found w told low t h in
-    let j = g .found w told low t h in
-    same-truth (a q) (b q) (λ k. j .each q .1 (i .each q .0 k)) (λ k. i .each q .1 (j .each q .0 k))
+  pub asked-determined : (a b : ℕ) → a < 2 ^ actionLimit → b < 2 ^ actionLimit → AskTold start masks log job a → AskTold start masks log job b → a ≡ b
+  asked-determined a b short short′ f g = same-bits a b (λ i. elim (decLt i actionLimit) [
+    | yes low ↦
+        let x = here .stands in
+        let u = f .each 0 0 (x .walk) (x .stands) i low in
+        let v = g .each 0 0 (x .walk) (x .stands) i low in
+        same-truth (on a i) (on b i) (λ k. v .1 (u .0 k)) (λ k. u .1 (v .0 k))
+    | no high ↦ on-high actionLimit short (omega arith) ∙ sym (on-high actionLimit short′ (omega arith))
+  ])

@@ -7,4 +7,6 @@ pub mod Found
 pub mod Loops
 pub mod Asking
 pub mod Answering
+pub mod Asked
+pub mod Signs
 pub mod Determined

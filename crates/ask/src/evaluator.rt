@@ -14,7 +14,7 @@ ghost use Rattle.positions.specs.Positions.{holds};
 ghost use Rattle.ask.specs.Found.{WalkHere, TestHere, WalkFound, ChainFound, TestFound, HereFound};
 
 // Where the second of two parts begins: behind the first.
-pub fn second(ends: &[u8], at: usize) -> usize
+pub(crate) fn second(ends: &[u8], at: usize) -> usize
     requires { ⌜ at + 1 < length (ends .now) ⌝ }
     ensures { λ r. ⌜ r ≡ getD (ends .entry .now) (at + 1) 0 ⌝ }
 {
@@ -23,7 +23,7 @@ pub fn second(ends: &[u8], at: usize) -> usize
 }
 
 // The positions that the walk at a place leads to from those of a set; with `back`, its converse.
-pub fn walk(
+pub(crate) fn walk(
     text: &[u8],
     ends: &[u8; ENDS_ROOM],
     at: usize,

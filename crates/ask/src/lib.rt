@@ -2,9 +2,11 @@
 ghost use Rattle.meaning.specs.Rule.{walkKind, testKind};
 ghost use Rattle.ask.specs.Answer.{ReachAnswered, VerdictAnswered};
 
+mod asks; // asks.rt: the actions that a walk asks for next
 mod checks; // checks.rt: which refusal a question is given
-pub mod evaluator; // evaluator.rt: the walk function and the test function
-pub mod step; // step.rt: the signs with no part
+mod evaluator; // evaluator.rt: the walk function and the test function
+pub mod job; // job.rt: a job over a log as it stands
+mod step; // step.rt: the signs with no part
 
 use checks::check;
 use positions::PositionSet;

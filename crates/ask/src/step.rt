@@ -20,7 +20,7 @@ pub(crate) fn wide(b: u8) -> usize
 }
 
 // The number behind the sign at a place.
-pub fn named(text: &[u8], at: usize) -> usize
+pub(crate) fn named(text: &[u8], at: usize) -> usize
     requires { ⌜ Numbered (text .now) (at + 1) ⌝ }
     ensures { λ r. ⌜ ((n : ℕ) → NumberAt (text .entry .now) (at + 1) n → r ≡ n) ⌝ }
 {

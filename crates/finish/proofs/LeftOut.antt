@@ -1,11 +1,13 @@
 -- Which actions the search may leave out: those that are not possible, and those that the job does not ask for where it stands. Knows no text.
 use mathlib.Core.Path.{_≡_, sym, _∙_}
+use mathlib.Core.Logic.{_↔_}
 use mathlib.Core.Bool.{true, false}
 use mathlib.Core.List.{List, _∷_}
-use Prim.Native.Nat.{ℕ, _≤_}
+use Prim.Native.Nat.{ℕ, _≤_, _<_}
 use native.Mathlib.Omega.{arith}
 use lib.Bits.{bitAnd}
 use lib.ListN.{length, length-append}
+use Rattle.laws.specs.Bit.{on}
 use Rattle.meaning.specs.Limits.{actionLimit}
 use Rattle.meaning.specs.Theory.{World}
 use Rattle.meaning.specs.Rule.{Walk, backward}
@@ -14,9 +16,8 @@ use Rattle.meaning.proofs.Asks.{next-asked}
 use Rattle.laws.proofs.Truth.{off-on, and-iff}
 use Rattle.laws.proofs.Bitwise.{on-and}
 use Rattle.theory.specs.World.{worldOf}
-use Rattle.ask.specs.Image.{Set}
 use Rattle.finish.specs.Search.{stands, Completes, Tries}
-use Rattle.finish.specs.Found.{AskedBy, Doable}
+use Rattle.finish.specs.Found.{Doable}
 use Rattle.finish.proofs.Lengths.{completes-more}
 
 -- an action that is not possible begins nothing
@@ -35,10 +36,11 @@ pub completes-asks : (w : World) (job : Walk) (a : ℕ) (rest : List ℕ) → ba
 completes-asks w job a rest onward c = next-asked w job (w .log) rest a 0 _ _ onward (c .done) (omega arith) (simp length-append (omega arith))
 
 -- an action that is not possible, or that the job does not ask for, begins nothing
-pub asked-tries : (fluents actions start : ℕ) (masks log : List ℕ) (x : Walk) (from : Set) (state able asked : ℕ) → actions ≤ actionLimit → backward x ≡ false
-    → state ≡ stands (worldOf fluents actions start masks log) → Doable actions masks state able → from 0 ≡ true
-    → AskedBy (worldOf fluents actions start masks log) x (length log) from asked → Tries (worldOf fluents actions start masks log) x (bitAnd able asked)
-asked-tries fluents actions start masks log x from state able asked few onward e d begins asks =
+pub asked-tries : (fluents actions start : ℕ) (masks log : List ℕ) (x : Walk) (state able asked : ℕ) → actions ≤ actionLimit → backward x ≡ false
+    → state ≡ stands (worldOf fluents actions start masks log) → Doable actions masks state able
+    → ((a : ℕ) → a < actionLimit → (on asked a ≡ true) ↔ Asks (worldOf fluents actions start masks log) x 0 (length log) a)
+    → Tries (worldOf fluents actions start masks log) x (bitAnd able asked)
+asked-tries fluents actions start masks log x state able asked few onward e d asks =
     let w = worldOf fluents actions start masks log in
     let t = doable-tries fluents actions start masks log x state able e d in
     record {
@@ -46,5 +48,5 @@ asked-tries fluents actions start masks log x from state able asked few onward e
       leaves = λ a h rest c.
           let u = completes-more w x a rest .0 c in
           let waits = completes-asks w x a rest onward c in
-          off-on h (on-and able asked a ∙ and-iff _ _ .1 (d .each a .1 (u .0, rw e (u .1)), asks a (omega (arith, u .0)) .1 (0, begins, waits)));
+          off-on h (on-and able asked a ∙ and-iff _ _ .1 (d .each a .1 (u .0, rw e (u .1)), asks a (omega (arith, u .0)) .1 waits));
     }

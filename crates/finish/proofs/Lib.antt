@@ -4,8 +4,6 @@ pub mod Doable
 pub mod Sound
 pub mod Trail
 pub mod Shorter
-pub mod Asked
-pub mod Signs
 pub mod Determined
 pub mod Seeking
 pub mod Checks

@@ -17,7 +17,8 @@ use Rattle.meaning.specs.Rule.{Walk}
 use Rattle.theory.specs.World.{worldOf}
 use Rattle.finish.specs.Search.{Ended, FirstOf, NoneOf}
 use Rattle.finish.specs.Sound.{JobIs, Logged, Ready}
-use Rattle.finish.specs.Found.{NextTold, EndTold, OneLength, LengthTold}
+use Rattle.ask.specs.Asked.{EndTold}
+use Rattle.finish.specs.Found.{NextTold, OneLength, LengthTold}
 use Rattle.finish.proofs.Sound.{logged-more}
 use Rattle.finish.proofs.Lengths.{first-empty, none-empty, NoneAfter, none-after, first-more, none-more}
 
@@ -50,9 +51,9 @@ module _ (actions start : ℕ) (masks job : List ℕ) where
   ]
 
   -- a sequence of no action
-  pub leaf-told : (trail : List ℕ) (n : ℕ) (answer : Bool) → EndTold start masks job (take n trail) answer
+  pub leaf-told : (trail : List ℕ) (n : ℕ) (answer : Bool) → EndTold start masks (take n trail) job answer
       → LengthTold actions start masks job trail n 0 trail answer
-  leaf-told trail n answer told = record { kept = refl; each = λ fluents x j. go fluents x answer (told .each fluents actions x j) }
+  leaf-told trail n answer told = record { kept = refl; each = λ fluents x j. go fluents x answer (told .each fluents actions x (j .there)) }
     where
       go : (fluents : ℕ) (x : Walk) (b : Bool) → (b ≡ true) ↔ Ended (At (take n trail) fluents) x (take n trail) → OneLength b 0 (At (take n trail) fluents) x []
       go fluents x true e = first-empty (At (take n trail) fluents) x (e .0 refl)

@@ -7,16 +7,12 @@ use Prim.Native.Nat.{ℕ, _+_, _≤_, _<_}
 use lib.ListN.{drop, take}
 use Rattle.refusal.specs.Number.{numberOf}
 use Rattle.laws.specs.Bit.{on}
-use Rattle.meaning.specs.Limits.{actionLimit, logLimit}
+use Rattle.meaning.specs.Limits.{logLimit}
 use Rattle.meaning.specs.Theory.{World, Possible}
-use Rattle.meaning.specs.Rule.{Walk, ofWalk}
-use Rattle.meaning.specs.Asks.{Asks}
+use Rattle.meaning.specs.Rule.{Walk}
 use Rattle.meaning.specs.Finish.{First, None}
 use Rattle.theory.specs.World.{tableMasks, worldOf}
-use Rattle.ask.specs.Image.{Set, UpTo}
-use Rattle.rule.specs.Standing.{Stands}
-use Rattle.ask.specs.Found.{Told}
-use Rattle.finish.specs.Search.{Ended, FirstOf, NoneOf, Tries}
+use Rattle.finish.specs.Search.{FirstOf, NoneOf, Tries}
 use Rattle.finish.specs.Sound.{JobIs}
 use Rattle.finish.specs.Answer.{Finished}
 use Rattle.finish.specs.declared.FinishAnswer.{FinishAnswer}
@@ -24,25 +20,13 @@ use Rattle.finish.specs.declared.FinishAnswer.the-variants.{Refused, Wri
 use Rattle.finish.specs.declared.search.Found.{Found}
 use Rattle.finish.specs.declared.search.Found.the-variants.{At, Nothing}
 
--- the actions that a walk asks for at now = n, from some position of a set, bit a for action a
-abbrev pub AskedBy : World → Walk → ℕ → Set → ℕ → Type 0
-AskedBy w x n from asked = (a : ℕ) → a < actionLimit → (on asked a ≡ true) ↔ ((p : ℕ) × (from p ≡ true) × Asks w x p n a)
-
 -- the actions that are possible in a state, bit a for action a
 pub record Doable (actions : ℕ) (masks : List ℕ) (state asked : ℕ) : Type 0 where
   pub each : (a : ℕ) → (on asked a ≡ true) ↔ ((a < actions) × Possible (tableMasks masks a) state)
 
--- the actions that the walk at a place of the text asks for at now, from some position of a set
-pub record AskFound (text : List ℕ) (at : ℕ) (done lit : List ℕ) (now : ℕ) (from : Set) (asked : ℕ) : Type 0 where
-  pub found : (w : World) → Told w done lit now → UpTo now from → (x : Walk) → Stands text at (ofWalk x) → AskedBy w x now from asked
-
 -- the actions to try next
 pub record NextTold (actions start : ℕ) (masks job log : List ℕ) (asked : ℕ) : Type 0 where
   pub each : (fluents : ℕ) (x : Walk) → JobIs job x → Tries (worldOf fluents actions start masks log) x asked
-
--- the job is finished as the log stands
-pub record EndTold (start : ℕ) (masks job log : List ℕ) (answer : Bool) : Type 0 where
-  pub each : (fluents actions : ℕ) (x : Walk) → JobIs job x → (answer ≡ true) ↔ Ended (worldOf fluents actions start masks log) x log
 
 -- this is the first sequence of k actions that completes the job; there is none
 abbrev pub OneLength : Bool → ℕ → World → Walk → List ℕ → Type 0

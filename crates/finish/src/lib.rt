@@ -4,7 +4,6 @@ ghost use Rattle.finish.specs.Sound.{Wanted};
 ghost use Rattle.finish.specs.Answer.{numberGiven, countGiven, FinishAnswered};
 ghost use Rattle.finish.specs.Found.{SoughtTold};
 
-mod asks; // asks.rt: the actions that the job asks for next
 mod search; // search.rt: the search itself
 mod tries; // tries.rt: the actions to try next
 

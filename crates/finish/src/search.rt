@@ -2,41 +2,17 @@
 ghost use mathlib.Core.Path.{_≡_};
 ghost use Prim.Native.Nat.{_-_, _≤_, min};
 ghost use Rattle.meaning.specs.Limits.{logLimit};
-ghost use Rattle.finish.specs.Sound.{Node, Ready};
-ghost use Rattle.finish.specs.Found.{EndTold, LengthTold, FinishTold};
+ghost use Rattle.finish.specs.Sound.{Ready};
+ghost use Rattle.finish.specs.Found.{LengthTold, FinishTold};
 use crate::tries::tries;
-use ask::evaluator;
+use ask::job;
 use positions::PositionSet;
 use rule::ends::ENDS_ROOM;
-use theory::ACTION_LIMIT;
-use theory::FLUENT_LIMIT;
-use theory::tables;
 
 // How many actions the first finishing sequence has.
 pub enum Found {
     At(usize),
     Nothing,
-}
-
-// The job is finished as the log stands.
-fn finished(
-    actions: usize,
-    start: u32,
-    masks: &[u32],
-    job: &[u8],
-    ends: &[u8; ENDS_ROOM],
-    log: &[u8],
-) -> bool
-    requires { ⌜ Node actions (now masks) (now job) (now ends) (now log) ⌝ }
-    ensures { λ r. ⌜ EndTold start (now (masks .entry)) (now (job .entry)) (now (log .entry)) r ⌝ }
-{
-    let mut done = [0u64; ACTION_LIMIT];
-    let mut lit = [0u64; FLUENT_LIMIT];
-    tables::transpose(masks, start, log, &mut done, &mut lit);
-    let end = log.len();
-    let front = PositionSet::at(0);
-    let reached = evaluator::walk(job, ends, 0, front, end, false, &done, &lit);
-    reached.has(end)
 }
 
 // The first sequence of exactly `left` actions behind the first n of the trail: whether there is one; it then stands there.
@@ -54,7 +30,7 @@ fn complete(
     ensures { λ r. ⌜ LengthTold actions start (now (masks .entry)) (now (job .entry)) (now (trail .entry)) n left (now (trail .exit)) r ⌝ }
 {
     if left == 0 {
-        return finished(actions, start, masks, job, ends, &trail[..n]);
+        return job::ended(start, masks, &trail[..n], job, ends);
     }
     let rest = left - 1;
     let next = n + 1;

@@ -1,14 +1,10 @@
 // Which actions may come next: one answer, a word with bit a for action a.
 ghost use Rattle.finish.specs.Sound.{Table, Node};
 ghost use Rattle.finish.specs.Found.{Doable, NextTold};
-use crate::asks::asks;
-use positions::PositionSet;
+use ask::job;
 use rule::ends::ENDS_ROOM;
-use theory::ACTION_LIMIT;
-use theory::FLUENT_LIMIT;
 use theory::log;
 use theory::step;
-use theory::tables;
 
 // The actions that are possible in this state.
 fn doable(actions: usize, masks: &[u32], state: u32) -> u64
@@ -39,12 +35,8 @@ pub(crate) fn tries(
     requires { ⌜ Node actions (now masks) (now job) (now ends) (now log) ⌝ }
     ensures { λ r. ⌜ NextTold actions start (now (masks .entry)) (now (job .entry)) (now (log .entry)) r ⌝ }
 {
-    let mut done = [0u64; ACTION_LIMIT];
-    let mut lit = [0u64; FLUENT_LIMIT];
-    tables::transpose(masks, start, log, &mut done, &mut lit);
+    let asked = job::asked(start, masks, log, job, ends);
     let end = log.len();
-    let front = PositionSet::at(0);
-    let asked = asks(job, ends, 0, front, end, &done, &lit);
     let state = log::state_at(masks, start, log, end);
     let able = doable(actions, masks, state);
     able & asked

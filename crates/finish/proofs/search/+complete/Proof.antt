@@ -10,11 +10,12 @@ use borrow.Fn.PlainCycle.{Measures, is, falls, and}
 use denote.Ref.{now}
 use lib.ListN.{length, length-set, take}
 use lib.Seq.{length-take-le}
+use Rattle.finish.proofs.Sound.{readable}
 use Rattle.finish.proofs.Trail.{Passed, bit-on, bit-off, leaf-told, passed-out, passed-tried, kept-tried, tried-told, none-told, place, ready-more}
 use Rattle.finish.proofs.search.complete.Reads as reads
 use Rattle.finish.proofs.search.complete.Kinds as kinds
 use Rattle.finish.proofs.search.+complete.Lts-complete as lts
-use Rattle.finish.proofs.search.finished.Reads as finished-reads
+use Rattle.ask.proofs.job.ended.Reads as ended-reads
 use Rattle.finish.proofs.tries.tries.Reads as tries-reads
 use Rattle.finish.proofs.search.+complete.{statement}
 use Rattle.finish.proofs.search.+complete.Tie.{close}
@@ -30,7 +31,7 @@ abbrev below : ℕ → In 4 kinds.ps
 below t = and 4 kinds.ps (falls 4 kinds.ps _<_ μ t) reads.Pre
 
 abbrev calls : ℕ → lts.Claims
-calls t = (finished-reads.Asked, finished-reads.Learnt, tries-reads.Asked, tries-reads.Learnt, below t, reads.Post)
+calls t = (ended-reads.Asked, ended-reads.Learnt, tries-reads.Asked, tries-reads.Learnt, below t, reads.Post)
 
 abbrev Inv : lts.InvT-loop
 Inv actions start masks job ends trail₀ n left rest next asked a₀ trail a =
@@ -42,14 +43,17 @@ Inv actions start masks job ends trail₀ n left rest next asked a₀ trail a =
 abbrev μ-loop : lts.MeasureT-loop
 μ-loop actions start masks job ends trail₀ n left rest next asked a₀ trail a = actions - a
 
-slice-reshare-prefix-finished : (t : ℕ) → lts.Need-slice-reshare-prefix-finished (calls t) (given t) reads.Post Inv μ-loop
-slice-reshare-prefix-finished t c = omega arith
+slice-reshare-prefix-ended : (t : ℕ) → lts.Need-slice-reshare-prefix-ended (calls t) (given t) reads.Post Inv μ-loop
+slice-reshare-prefix-ended t c = omega arith
 
-slice-aggregate-finished : (t : ℕ) → lts.Need-slice-aggregate-finished (calls t) (given t) reads.Post Inv μ-loop
-slice-aggregate-finished t c = let s = c .before .before .before .before .before in sym (length-take-le (s .args .n) (now (s .args .trail)) (omega arith))
+slice-aggregate-ended : (t : ℕ) → lts.Need-slice-aggregate-ended (calls t) (given t) reads.Post Inv μ-loop
+slice-aggregate-ended t c = let s = c .before .before .before .before .before in sym (length-take-le (s .args .n) (now (s .args .trail)) (omega arith))
 
-finished-requires : (t : ℕ) → lts.Need-finished-requires (calls t) (given t) reads.Post Inv μ-loop
-finished-requires t c κs = c .before .before .before .before .before .pre .1 .node
+ended-requires : (t : ℕ) → lts.Need-ended-requires (calls t) (given t) reads.Post Inv μ-loop
+ended-requires t c κs =
+    let s = c .before .before .before .before .before in
+    let node = s .pre .1 .node in
+    record { readable = readable (s .args .actions) (now (s .args .masks)) _ (node .logged); stands = node .stands }
 
 same-length : (t : ℕ) → lts.Need-same-length (calls t) (given t) reads.Post Inv μ-loop
 same-length t c = search needs
@@ -58,7 +62,7 @@ returns : (t : ℕ) → lts.Need-returns (calls t) (given t) reads.Post Inv μ-l
 returns t c =
     let a = c .before .before .before .before .before .before .args in
     rw (c .before .before .if1 .taken)
-    (leaf-told (a .actions) (a .start) (now (a .masks)) (now (a .job)) (now (a .trail)) (a .n) (c .finished .result) (c .finished .ensures))
+    (leaf-told (a .actions) (a .start) (now (a .masks)) (now (a .job)) (now (a .trail)) (a .n) (c .ended .result) (c .ended .ensures))
 
 sub-rest : (t : ℕ) → lts.Need-sub-rest (calls t) (given t) reads.Post Inv μ-loop
 sub-rest t c = omega arith
@@ -171,9 +175,9 @@ returns-3 t c =
 
 pub +complete-spec : {M : Type 1} → statement M
 +complete-spec = close μ λ t. lts.spec (calls t) (given t) reads.Post Inv μ-loop
-    (slice-reshare-prefix-finished t)
-    (slice-aggregate-finished t)
-    (finished-requires t)
+    (slice-reshare-prefix-ended t)
+    (slice-aggregate-ended t)
+    (ended-requires t)
     (same-length t)
     (returns t)
     (sub-rest t)

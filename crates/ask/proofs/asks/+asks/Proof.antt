@@ -1,4 +1,4 @@
--- `finish::asks::asks` meets its contract: a line for each need, by what stands behind a sign and what the parts' answers make. The measure is the text
+-- `ask::asks::asks` meets its contract: a line for each need, by what stands behind a sign and what the parts' answers make. The measure is the text
 -- that is left.
 use mathlib.Core.Path.{ap, _∙_}
 use Prim.Native.Nat.{ℕ, _-_, _<_}
@@ -9,18 +9,18 @@ use borrow.Author.Needs.{needs}
 use borrow.Fn.Kinds.{In}
 use borrow.Fn.PlainCycle.{Measures, is, falls, and}
 use Rattle.rule.proofs.Spread.{within}
 use Rattle.ask.proofs.Calls.{seq-first, seq-second, alt-first, alt-second, star-part}
-use Rattle.finish.proofs.Signs.{act-number, act-found, next-found, seq-found, alt-found, star-found, quiet-found}
-use Rattle.finish.proofs.asks.asks.Reads as reads
-use Rattle.finish.proofs.asks.asks.Kinds as kinds
-use Rattle.finish.proofs.asks.+asks.Lts-asks as lts
+use Rattle.ask.proofs.Signs.{act-number, act-found, next-found, seq-found, alt-found, star-found, quiet-found}
+use Rattle.ask.proofs.asks.asks.Reads as reads
+use Rattle.ask.proofs.asks.asks.Kinds as kinds
+use Rattle.ask.proofs.asks.+asks.Lts-asks as lts
 use Rattle.ask.proofs.evaluator.second.Reads as second-reads
 use Rattle.ask.proofs.evaluator.walk.Reads as walk-reads
 use Rattle.ask.proofs.step.named.Reads as named-reads
-use Rattle.finish.proofs.asks.one.Reads as one-reads
-use Rattle.finish.proofs.asks.waits.Reads as waits-reads
-use Rattle.finish.proofs.asks.+asks.{statement}
-use Rattle.finish.proofs.asks.+asks.Tie.{close}
+use Rattle.ask.proofs.asks.one.Reads as one-reads
+use Rattle.ask.proofs.asks.waits.Reads as waits-reads
+use Rattle.ask.proofs.asks.+asks.{statement}
+use Rattle.ask.proofs.asks.+asks.Tie.{close}
 
 abbrev μ : Measures 4 kinds.ps ℕ
 μ κs a = length (a .0 .now) - a .1 .1 .0

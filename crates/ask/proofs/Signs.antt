@@ -11,14 +11,14 @@ use Rattle.meaning.specs.Limits.{actionLimit}
 use Rattle.meaning.specs.Theory.{World}
 use Rattle.meaning.specs.Rule.{Walk, Rule, ofWalk}
 use Rattle.meaning.proofs.Bounds.{leads-within}
 use Rattle.ask.specs.Image.{Set, UpTo}
 use Rattle.rule.specs.Standing.{Stands, NumberAt, Numbered, Ends}
 use Rattle.ask.specs.Found.{Told, WalkHere, WalkFound}
 use Rattle.ask.proofs.Image.{image-up-to}
 use Rattle.rule.proofs.Spread.{Spread, spread, act-at, undo-at, next-at, prev-at, seq-at, alt-at, star-at, check-at, conv-at}
 use Rattle.ask.proofs.Calls.{end-stands, NoSign}
-use Rattle.finish.specs.Found.{AskedBy, AskFound}
-use Rattle.finish.proofs.Asked.{act-asked, next-asked, seq-asked, alt-asked, star-asked, check-asked, undo-asked, prev-asked, conv-asked}
+use Rattle.ask.specs.Asked.{AskedBy, AskFound}
+use Rattle.ask.proofs.Asked.{act-asked, next-asked, seq-asked, alt-asked, star-asked, check-asked, undo-asked, prev-asked, conv-asked}
 
 -- the number behind an `a`
 pub act-number : {bytes ends : List ℕ} {at : ℕ} → WalkHere bytes ends at → getD bytes at 0 ≡ 97 → Numbered bytes (at + 1)

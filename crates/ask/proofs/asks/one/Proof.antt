@@ -1,4 +1,4 @@
--- `finish::asks::one` meets its contract: `1 << a`, and nothing past the last action.
+-- `ask::asks::one` meets its contract: `1 << a`, and nothing past the last action.
 use mathlib.Core.Path.{sym, _∙_}
 use native.Mathlib.Omega.{arith}
 use borrow.Author.Tests.{ne-eqb}
@@ -6,8 +6,8 @@ use Rattle.laws.proofs.On.{on-none}
 use Rattle.laws.proofs.Shift.{on-one-shl}
 use Rattle.meaning.specs.Limits.{actionLimit}
 use borrow.Author.Needs.{needs}
-use Rattle.finish.proofs.asks.one.Statement.{statement}
-use Rattle.finish.proofs.asks.one.Tie as tie
+use Rattle.ask.proofs.asks.one.Statement.{statement}
+use Rattle.ask.proofs.asks.one.Tie as tie
 
 shl-result : tie.Need-shl-result
 shl-result c = search needs

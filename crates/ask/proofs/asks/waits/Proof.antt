@@ -1,8 +1,8 @@
--- `finish::asks::waits` meets its contract: the test is whether the set holds the end.
+-- `ask::asks::waits` meets its contract: the test is whether the set holds the end.
 use mathlib.Core.Path.{sym, _∙_}
 use borrow.Author.Needs.{needs}
-use Rattle.finish.proofs.asks.waits.Statement.{statement}
-use Rattle.finish.proofs.asks.waits.Tie as tie
+use Rattle.ask.proofs.asks.waits.Statement.{statement}
+use Rattle.ask.proofs.asks.waits.Tie as tie
 
 has-requires : tie.Need-has-requires
 has-requires c κs = search needs

@@ -18,8 +18,8 @@ use Rattle.meaning.specs.Theory.{World}
 use Rattle.meaning.specs.Rule.{Walk, Test, act, undo, next, prev, seq, alt, star, check, conv}
 use Rattle.meaning.specs.Leads.{Leads}
 use Rattle.meaning.specs.Asks.{Asks}
-use Rattle.finish.specs.Found.{AskedBy}
+use Rattle.ask.specs.Asked.{AskedBy}
 use Rattle.ask.specs.Image.{Set, UpTo, Image}
 
 -- from position 0 alone
 abbrev pub FromStart : Set → Type 0
@@ -37,6 +37,15 @@ ended-iff w x n from reached start image = (
   λ h. let u = image .each n .0 h in
       subst (λ (p : ℕ). Leads w x p n n) (sym (start-only start (u .0) (u .1))) (u .2),
   λ h. image .each n .1 (0, start 0, h),
+)
+
+-- what is asked for from 0 alone
+pub front-asked : (w : World) (x : Walk) (n : ℕ) (from : Set) (asked : ℕ) → FromStart from → AskedBy w x n from asked
+    → (a : ℕ) → a < actionLimit → (on asked a ≡ true) ↔ Asks w x 0 n a
+front-asked w x n from asked start f a h = (
+  λ e. let u = f a h .0 e in
+      subst (λ (p : ℕ). Asks w x p n a) (sym (start-only start (u .0) (u .1))) (u .2),
+  λ k. f a h .1 (0, start 0, k),
 )
 
 -- a word with no bit on
