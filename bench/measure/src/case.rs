@@ -63,6 +63,16 @@ engine!(ours, wyndhopper, verdict, reach, finish);
 engine!(plain, plain, verdict, reach, finish);
 engine!(quick, plain, quick_verdict, quick_reach, quick_finish);
 
+/// How often the search asks the job, in the plain implementation, which takes the same steps.
+pub fn turns(c: &Case) -> Option<usize> {
+    let t = &c.theory;
+    let job = plain::Job { fluents: t.fluents, actions: t.actions(), start: t.start, masks: &t.masks, log: &c.log };
+    match &c.ask {
+        Ask::Finish { job: text, more } => job.finish_turns(text.as_bytes(), *more).ok(),
+        _ => None,
+    }
+}
+
 /// A sheet's text.
 pub fn sheet(t: &Theory, log: &[u8], ask: &str, run: &str, more: usize) -> String {
     let mut s = format!("sheet=1\nfluents={:02}\nactions={:02}\nstart={:08x}\n", t.fluents, t.actions(), t.start);

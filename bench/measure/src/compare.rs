@@ -1,7 +1,7 @@
 //! The tables of ratios: verdict, reach and finish beside the plain implementation, and whole sheets.
 use std::hint::black_box;
 
-use crate::case::{ours, plain, quick, sheet, Ask, Case, Theory};
+use crate::case::{ours, plain, quick, sheet, turns, Ask, Case, Theory};
 use crate::clock::{least, side_by_side, TABLE};
 use crate::texts::{diamonds, held_up, in_order, tests, wide_choice, wide_test};
 use crate::theories::{cartons, document, each_once, either, idle, labels, round};
@@ -64,13 +64,19 @@ fn finishes() -> Vec<Case> {
     ]
 }
 
+/// How often the job was asked.
+fn turned(c: &Case) -> String {
+    let n = turns(c).expect("a finish that is not refused");
+    format!("{n} turn{}", if n == 1 { "" } else { "s" })
+}
+
 /// The answer in words.
 fn told(c: &Case) -> String {
     match (&c.ask, ours(c)) {
         (Ask::Verdict { .. }, Ok(v)) => if v[0] == 1 { "yes" } else { "no" }.into(),
         (Ask::Reach { .. }, Ok(v)) => format!("{} positions", v[1]),
-        (Ask::Finish { .. }, Ok(v)) => format!("{} actions", v[0]),
-        (_, Err(11)) => "none".into(),
+        (Ask::Finish { .. }, Ok(v)) => format!("{} actions, {}", v[0], turned(c)),
+        (_, Err(11)) => format!("none, {}", turned(c)),
         (_, Err(n)) => panic!("{}: refused {n}", c.name),
     }
 }

@@ -8,6 +8,8 @@ pub struct Search<'a> {
     world: &'a World<'a>,
     rule: &'a Rule<'a>,
     trail: [u8; 64],
+    /// How often the job was asked.
+    turns: usize,
 }
 
 /// The actions of a theory that are possible in a state, bit a for action a.
@@ -51,6 +53,7 @@ impl Search<'_> {
 
     /// The first sequence of exactly `left` actions behind the first n of the trail: whether there is one; it then stands there.
     fn complete(&mut self, n: usize, left: usize) -> bool {
+        self.turns += 1;
         if left == 0 {
             return self.finished(n);
         }
@@ -66,12 +69,14 @@ impl Search<'_> {
     }
 }
 
-/// The first sequence that finishes the job, in the front of `out`.
-pub fn first(world: &World, rule: &Rule, more: usize, out: &mut [u8]) -> Option<usize> {
+/// The first sequence that finishes the job, in the front of `out`; and how often the job was asked on the way.
+pub fn first(world: &World, rule: &Rule, more: usize, out: &mut [u8]) -> (Option<usize>, usize) {
     let n = world.log.len();
-    let mut search = Search { world, rule, trail: [0; 64] };
+    let mut search = Search { world, rule, trail: [0; 64], turns: 0 };
     search.trail[..n].copy_from_slice(world.log);
-    let length = (0..=longest(world, more)).find(|&k| search.complete(n, k))?;
-    out[..length].copy_from_slice(&search.trail[n..n + length]);
-    Some(length)
+    let length = (0..=longest(world, more)).find(|&k| search.complete(n, k));
+    if let Some(k) = length {
+        out[..k].copy_from_slice(&search.trail[n..n + k]);
+    }
+    (length, search.turns)
 }

@@ -112,7 +112,14 @@ impl<'a> Job<'a> {
     #[inline(never)]
     pub fn finish(&self, job: &[u8], more: usize, out: &mut [u8]) -> Result<usize, Refusal> {
         let (world, rule) = self.to_finish(job, more, out.len())?;
-        finish::first(&world, &rule, more, out).ok_or(11)
+        finish::first(&world, &rule, more, out).0.ok_or(11)
+    }
+
+    /// How often `finish` asks the job, where no call is refused before the search.
+    pub fn finish_turns(&self, job: &[u8], more: usize) -> Result<usize, Refusal> {
+        let mut out = [0; 6];
+        let (world, rule) = self.to_finish(job, more, out.len())?;
+        Ok(finish::first(&world, &rule, more, &mut out).1)
     }
 
     #[inline(never)]
