@@ -32,7 +32,7 @@ module _ (s : Sheet) (legal : Legal s) where
             passes (not-first world)
             (passes (not-first (not-rest world))
             (passes (not-first (not-rest (not-rest world)))
-            (passes (not-first ask) (passes (not-first (not-rest ask)) (passes (not-first (not-rest (not-rest ask))) (passes timely accepts))))));
+            (passes (not-first ask) (passes (not-first (not-rest ask)) (passes (not-first (not-rest (not-rest ask))) (passes (not-first (not-rest (not-rest (not-rest ask)))) (passes timely accepts)))))));
         stated =
             passes (not-first world) (passes (not-first (not-rest world)) (passes (not-first (not-rest (not-rest world))) (passes here accepts)));
         sought = λ k a.

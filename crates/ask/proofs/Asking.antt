@@ -15,47 +15,32 @@ use Rattle.meaning.proofs.Reading.{opens?, unique-reading}
 use Rattle.theory.specs.World.{Readable}
 use Rattle.theory.specs.Rows.{worldRows}
 use Rattle.theory.proofs.Reading.{checked, readable}
-use Rattle.rule.specs.Outcome.{ruleRows}
-use Rattle.ask.specs.Rows.{questionRows, timeRows, askRows}
+use Rattle.rule.specs.Outcome.{textRows, ruleRows}
+use Rattle.ask.specs.Rows.{timeRows, askRows}
 use Rattle.rule.specs.Standing.{Stands}
-
--- a question is no job: the last row of a rule's table does not hold, and the first is the world's
-shed : {A B C D : Type 0} → (D → ⊥) → A ⊎ (B ⊎ (C ⊎ (D ⊎ ⊥))) → A ⊎ (B ⊎ (C ⊎ ⊥))
-shed not = ⊎-elim inl (λ h. inr (⊎-elim inl (λ k. inr (⊎-elim inl (λ m. absurd (⊎-elim not (λ n. n) m)) k)) h))
-
-regain : {A B C D : Type 0} → A ⊎ (B ⊎ (C ⊎ ⊥)) → A ⊎ (B ⊎ (C ⊎ (D ⊎ ⊥)))
-regain = ⊎-elim inl (λ h. inr (⊎-elim inl (λ k. inr (⊎-elim inl (λ m. absurd m) k)) h))
 
 module _ (kind : Kind) (fluents actions start : ℕ) (masks log bytes : List ℕ) (then now : ℕ) where
   pub world-refuses : {N : ℕ} → Refused (worldRows fluents actions start masks log) N → Refused (askRows kind fluents actions start masks log bytes then now) N
-  world-refuses r = refused-first (worldRows fluents actions start masks log) (questionRows kind bytes fluents actions ++ timeRows then now log) 5 tt tt r
+  world-refuses r = refused-first (worldRows fluents actions start masks log) (textRows true kind bytes fluents actions ++ timeRows then now log) 5 tt tt r
 
-  pub rule-refuses : {N : ℕ} → (kind ≡ jobKind → ⊥) → Accepted (worldRows fluents actions start masks log) → Refused (ruleRows true kind bytes fluents actions) N
+  -- the first row of a rule's table is the world's, where the counts are good
+  pub rule-refuses : {N : ℕ} → Accepted (worldRows fluents actions start masks log) → Refused (ruleRows true kind bytes fluents actions) N
       → Refused (askRows kind fluents actions start masks log bytes then now) N
-  rule-refuses {N} question a r =
-      let counted = not-first a in
-      let s = rest-refused (λ h. counted (inl h)) r in
-      let own : Refused (questionRows kind bytes fluents actions) N = record {
-        applies = shed (λ h. question (h .1 .faulty .0)) (s .applies);
-        smallest = λ k l h. s .smallest k l (regain h);
-      } in
-      refused-second (worldRows fluents actions start masks log) (questionRows kind bytes fluents actions ++ timeRows then now log) a
-      (refused-first (questionRows kind bytes fluents actions) (timeRows then now log) 8 tt tt own)
-
-  rule-accepts : Accepted (ruleRows true kind bytes fluents actions) → Accepted (questionRows kind bytes fluents actions)
-  rule-accepts a k h = not-rest a k (regain h)
+  rule-refuses {N} a r =
+      refused-second (worldRows fluents actions start masks log) (textRows true kind bytes fluents actions ++ timeRows then now log) a
+      (refused-first (textRows true kind bytes fluents actions) (timeRows then now log) 9 tt tt (rest-refused (λ h. not-first a (inl h)) r))
 
   pub times-refuse : Accepted (worldRows fluents actions start masks log) → Accepted (ruleRows true kind bytes fluents actions) → BadTimes then now log
       → Refused (askRows kind fluents actions start masks log bytes then now) 10
   times-refuse a b bad =
-      refused-second (worldRows fluents actions start masks log) (questionRows kind bytes fluents actions ++ timeRows then now log) a
-      (refused-second (questionRows kind bytes fluents actions) (timeRows then now log) (rule-accepts b) (here tt bad))
+      refused-second (worldRows fluents actions start masks log) (textRows true kind bytes fluents actions ++ timeRows then now log) a
+      (refused-second (textRows true kind bytes fluents actions) (timeRows then now log) (not-rest b) (here tt bad))
 
   pub nothing-refuses : Accepted (worldRows fluents actions start masks log) → Accepted (ruleRows true kind bytes fluents actions) → then ≤ now → now ≤ length log
       → Accepted (askRows kind fluents actions start masks log bytes then now)
   nothing-refuses a b early late =
-      accepted-both (worldRows fluents actions start masks log) (questionRows kind bytes fluents actions ++ timeRows then now log) a
-      (accepted-both (questionRows kind bytes fluents actions) (timeRows then now log) (rule-accepts b) (passes (⊎-elim (λ h. omega arith) (λ h. omega arith)) accepts))
+      accepted-both (worldRows fluents actions start masks log) (textRows true kind bytes fluents actions ++ timeRows then now log) a
+      (accepted-both (textRows true kind bytes fluents actions) (timeRows then now log) (not-rest b) (passes (⊎-elim (λ h. omega arith) (λ h. omega arith)) accepts))
 
 -- the bytes spell a rule of the kind, and one only
 whole : (kind : Kind) (bytes : List ℕ) → (BadRule kind bytes → ⊥) → (r : Rule) × Opens kind bytes r []
@@ -97,7 +82,7 @@ module _ {kind : Kind} {fluents actions start : ℕ} {masks log bytes : List ℕ
 
   pub asked-times : (then ≤ now) × (now ≤ length log)
   asked-times =
-      let timely : BadTimes then now log → ⊥ = not-first (not-rest (not-rest (not-rest (not-rest (not-rest (not-rest a)))))) in
+      let timely : BadTimes then now log → ⊥ = not-first (not-rest (not-rest (not-rest (not-rest (not-rest (not-rest (not-rest a))))))) in
       let early : ¬ (now < then) = λ h. timely (inl h) in
       let late : ¬ (length log < now) = λ h. timely (inr h) in
       (omega arith, omega arith)

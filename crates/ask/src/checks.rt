@@ -5,8 +5,6 @@ use rule::Kind;
 use rule::check_rule;
 use theory::Check;
 use theory::faults::check_world;
-ghost use mathlib.Core.Path.{_≡_};
-ghost use Rattle.meaning.specs.Rule.{jobKind};
 ghost use Rattle.theory.specs.Check.{Settled};
 ghost use Rattle.rule.specs.Outcome.{kindOf};
 ghost use Rattle.ask.specs.Rows.{askRows};
@@ -22,7 +20,6 @@ pub(crate) fn check(
     then: usize,
     now: usize,
 ) -> Check
-    requires { ⌜ (kindOf kind ≡ jobKind → ⊥) ⌝ }
     ensures { λ r. ⌜ Settled (askRows (kindOf kind) fluents actions start (masks .entry .now) (log .entry .now) (rule .entry .now) then now) r ⌝ }
 {
     match check_world(fluents, actions, start, masks, log) {

@@ -18,14 +18,14 @@ use Rattle.meaning.proofs.Refusal.{here, past, rest-refused, accepts, passes, n
 use Rattle.theory.specs.World.{worldOf}
 use Rattle.theory.specs.Rows.{worldRows}
 use Rattle.theory.proofs.Reading.{Checked}
-use Rattle.rule.specs.Outcome.{With, Spelled, ruleRows, Fitting}
+use Rattle.rule.specs.Outcome.{With, Spelled, textRows, ruleRows, Fitting}
 use Rattle.rule.specs.declared.Facts.{Facts}
 use Rattle.finish.specs.Sound.{JobIs, Wanted}
 use Rattle.finish.specs.Answer.{numberGiven, countGiven, FinishAnswered}
 use Rattle.finish.specs.Found.{Sought, SoughtTold}
 use Rattle.finish.specs.declared.FinishAnswer.{FinishAnswer}
 use Rattle.finish.specs.declared.FinishAnswer.the-variants.{Refused, Written}
-use Rattle.finish.specs.Rows.{NoFinish, jobRows, ownRows, finishRows}
+use Rattle.finish.specs.Rows.{NoFinish, ownRows, finishRows}
 
 -- what an accepted job is
 pub record Job (job : List ℕ) : Type 0 where
@@ -71,7 +71,7 @@ module _ (fluents actions start : ℕ) (masks log job : List ℕ) (more room : �
   World-rows = worldRows fluents actions start masks log
 
   abbrev Job-rows : List {1} Row
-  Job-rows = jobRows job fluents actions
+  Job-rows = textRows true jobKind job fluents actions
 
   abbrev Own-rows : List {1} Row
   Own-rows = ownRows (worldOf fluents actions start masks log) job more room

@@ -6,22 +6,15 @@ use Prim.Native.Nat.{ℕ}
 use Rattle.meaning.specs.Theory.{World}
 use Rattle.meaning.specs.Rule.{Rule, ofTest, ofWalk, jobKind}
 use Rattle.meaning.specs.Finish.{None}
-use Rattle.meaning.specs.Refusal.{Row, _when_, BadMore, BadRule, BadNames, TooDeep, BadJob, TooShort}
+use Rattle.meaning.specs.Refusal.{Row, _when_, BadMore, TooShort}
 use Rattle.theory.specs.World.{worldOf}
 use Rattle.theory.specs.Rows.{worldRows}
-use Rattle.rule.specs.Outcome.{Spelled, With}
+use Rattle.rule.specs.Outcome.{Spelled, With, textRows}
 
 -- 11: "finish: no such sequence"
 abbrev pub NoFinish : World → ℕ → Rule → Type 0
 NoFinish w more (ofWalk job) = None w job more
 NoFinish w more (ofTest t) = ⊥
-
--- the rows of a job's text; 7, 8 and 9 are of the rule that it spells
-abbrev pub jobRows : List ℕ → ℕ → ℕ → List {1} Row
-jobRows job fluents actions =
-    (6 when BadRule jobKind job)
-    ∷ ((7 when With (Spelled true jobKind job) (BadNames fluents actions))
-    ∷ ((8 when With (Spelled true jobKind job) TooDeep) ∷ ((9 when With (Spelled true jobKind job) (BadJob jobKind)) ∷ [])))
 
 -- "12 comes before 11": so the row of 11 says that 12 does not hold
 abbrev pub ownRows : World → List ℕ → ℕ → ℕ → List {1} Row
@@ -34,4 +27,4 @@ abbrev pub finishRows : ℕ → ℕ → ℕ → List ℕ → List ℕ → List �
 finishRows fluents actions start masks log job more room =
     (3 when BadMore more)
     ∷ (worldRows fluents actions start masks log
-    ++ (jobRows job fluents actions ++ ownRows (worldOf fluents actions start masks log) job more room))
+    ++ (textRows true jobKind job fluents actions ++ ownRows (worldOf fluents actions start masks log) job more room))

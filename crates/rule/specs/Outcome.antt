@@ -37,14 +37,18 @@ pub record With (spelled fault : Rule → Type 0) : Type 0 where
   pub spells : spelled rule
   pub faulty : fault rule
 
+-- the rows of a rule's text; 7, 8 and 9 are of the rule that it spells, and 9 of a job alone
+abbrev pub textRows : Bool → meaning.Kind → List ℕ → ℕ → ℕ → List {1} Row
+textRows whole kind bytes fluents actions =
+    (6 when Unspelled whole kind bytes)
+    ∷ (7 when With (Spelled whole kind bytes) (BadNames fluents actions))
+    ∷ (8 when With (Spelled whole kind bytes) TooDeep)
+    ∷ (9 when With (Spelled whole kind bytes) (BadJob kind))
+    ∷ []
+
 -- the rows of a call that reads a rule
 abbrev pub ruleRows : Bool → meaning.Kind → List ℕ → ℕ → ℕ → List {1} Row
-ruleRows whole kind bytes fluents actions =
-    (3 when BadCounts fluents actions)
-    ∷ ((6 when Unspelled whole kind bytes)
-    ∷ ((7 when With (Spelled whole kind bytes) (BadNames fluents actions))
-    ∷ ((8 when With (Spelled whole kind bytes) TooDeep)
-    ∷ ((9 when With (Spelled whole kind bytes) (BadJob kind)) ∷ []))))
+ruleRows whole kind bytes fluents actions = (3 when BadCounts fluents actions) ∷ textRows whole kind bytes fluents actions
 
 -- what an accepted rule is, and its facts
 pub record Fitting (whole : Bool) (kind : meaning.Kind) (bytes : List ℕ) (fluents actions : ℕ) (f : Facts) : Type 0 where

@@ -8,7 +8,6 @@ use Rattle.meaning.specs.Rule.{walkKind}
 use Rattle.meaning.specs.Refusal.{Row, Accepted}
 use Rattle.theory.specs.Check.{Settled}
 use Rattle.rule.proofs.Widths.{ends-told}
-use Rattle.rule.proofs.Outcomes.{walk-no-job}
 use Rattle.ask.specs.Rows.{askRows}
 use Rattle.ask.proofs.Asking.{asked-readable, asked-short}
 use Rattle.ask.proofs.Answering.{walk-first, reach-right}
@@ -25,7 +24,7 @@ sound : (c : tie.After-enum-told) → Accepted (rows (c .before .before .before 
 sound c = subst (Settled (rows (c .before .before .before .before .before .before))) (c .enum-told .given .1) (c .before .before .check .ensures)
 
 check-requires : tie.Need-check-requires
-check-requires c κs = walk-no-job
+check-requires c κs = search needs
 
 enum-known-r : tie.Need-enum-known-r
 enum-known-r c = search needs

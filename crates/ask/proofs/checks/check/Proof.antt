@@ -69,7 +69,7 @@ returns-3 c =
 returns-4 : tie.Need-returns-4
 returns-4 c =
     let start = c .before .before .before .before .before .before .before .before .before .before in
-    rule-refuses _ _ _ _ _ _ _ _ _ (start .pre) (sound (c .before .before .before .before)) (subst (Judged start) (c .before .r2 .given .1) (c .before .before .before .check-rule .ensures))
+    rule-refuses _ _ _ _ _ _ _ _ _ (sound (c .before .before .before .before)) (subst (Judged start) (c .before .r2 .given .1) (c .before .before .before .check-rule .ensures))
 
 returns-5 : tie.Need-returns-5
 returns-5 c = nothing-refuses _ _ _ _ _ _ _ _ _ (sound (c .before .before .before .before .before)) (fits (c .before .before)) (c .before .if1 .left) (c .if2 .left)
