@@ -6,7 +6,7 @@ use Prim.Native.Nat.{ℕ, _+_, _*_, _≤_, _<_}
 use lib.ListN.{length, getD, take}
 use Rattle.meaning.specs.Limits.{actionLimit, logLimit, places, textLimit}
 use Rattle.meaning.specs.Rule.{Walk, ofWalk, backward}
-use Rattle.theory.specs.World.{stride}
+use Rattle.meaning.specs.Theory.{stride}
 use Rattle.rule.specs.Standing.{Stands}
 use Rattle.ask.specs.Found.{WalkHere}
 

@@ -6,7 +6,7 @@ use Prim.Native.Nat.{ℕ}
 use Prim.Native.String.{String}
 use lib.ListN.{getD}
 use Rattle.laws.specs.Text.{bytes}
-use Rattle.meaning.specs.Theory.{Masks, World}
+use Rattle.meaning.specs.Theory.{Masks, World, masksOf}
 use Rattle.meaning.specs.Rule.{Walk, Test, Rule, Kind, testKind, walkKind, jobKind, ofTest, ofWalk, Opens, text}
 use Rattle.meaning.specs.Leads.{Holds}
 use Rattle.meaning.specs.Reach.{Reached}
@@ -15,10 +15,7 @@ use Rattle.meaning.specs.Finish.{First, None}
 
 -- The theory of the example sheet: two fluents, three actions, nothing on at the start
 
--- an `act=` line: "need, ban, put, drop"
-abbrev pub masksOf : ℕ → ℕ → ℕ → ℕ → Masks
-masksOf need ban put drop = record { need = need; ban = ban; put = put; drop = drop }
-
+-- its `act=` lines: "need, ban, put, drop"
 abbrev pub actions : List Masks
 actions = masksOf 0 0 1 0 ∷ masksOf 1 0 2 0 ∷ masksOf 0 0 0 3 ∷ []
 

@@ -7,6 +7,7 @@ use Prim.Native.Nat.{ℕ, _*_, _≤_, _<_}
 use lib.ListN.{length, getD}
 use Rattle.laws.specs.Bit.{on}
 use Rattle.meaning.specs.Limits.{fluentLimit, actionLimit, logLimit, places, textLimit, depthLimit, moreLimit}
+use Rattle.meaning.specs.Theory.{stride}
 use Rattle.meaning.specs.Rule.{Kind, jobKind, Rule, Opens, actionsIn, fluentsIn, depth, backwardIn}
 
 -- One row of the table for one call: its number is "given exactly when" this holds. A call has a row for each input that it has.
@@ -32,12 +33,12 @@ pub record Refused (rows : List {1} Row) (number : ℕ) : Type 0 where
 abbrev pub Accepted : List {1} Row → Type 0
 Accepted rows = (k : ℕ) → Applies rows k → ⊥
 
--- 3: "in a library call, a count or *more* out of range or a mask table of the wrong length". A mask table has four masks an action.
+-- 3: "in a library call, a count or *more* out of range or a mask table of the wrong length".
 abbrev pub BadCounts : ℕ → ℕ → Type 0
 BadCounts fluents actions = (fluentLimit < fluents) ⊎ ((actions < 1) ⊎ (actionLimit < actions))
 
 abbrev pub BadTable : ℕ → List ℕ → Type 0
-BadTable actions masks = length masks ≡ 4 * actions → ⊥
+BadTable actions masks = length masks ≡ stride * actions → ⊥
 
 abbrev pub BadMore : ℕ → Type 0
 BadMore more = moreLimit < more

@@ -15,6 +15,13 @@ pub record Masks : Type 0 where
   pub put : ℕ
   pub drop : ℕ
 
+abbrev pub masksOf : ℕ → ℕ → ℕ → ℕ → Masks
+masksOf need ban put drop = record { need = need; ban = ban; put = put; drop = drop }
+
+-- so many numbers of a mask table, and of a line of a sheet, belong to one action
+abbrev pub stride : ℕ
+stride = 4
+
 -- "It is *possible* in a state when every need bit is on and every ban bit off."
 pub record Possible (m : Masks) (state : ℕ) : Type 0 where
   pub needed : (i : ℕ) → on (m .need) i ≡ true → on state i ≡ true

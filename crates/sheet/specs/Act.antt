@@ -4,8 +4,7 @@ use mathlib.Core.Bool.{Bool, true, false}
 use mathlib.Core.List.{List}
 use Prim.Native.Nat.{ℕ, _+_}
 use lib.ListN.{getD, take, drop}
-use Rattle.meaning.specs.Theory.{Masks}
-use Rattle.theory.specs.World.{masksOf, stride}
+use Rattle.meaning.specs.Theory.{Masks, masksOf, stride}
 use Rattle.sheet.specs.Limits.{comma}
 use Rattle.sheet.specs.Numeral.{masksText}
 use Rattle.sheet.specs.Forms.{Words}

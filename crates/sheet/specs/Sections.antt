@@ -5,7 +5,7 @@ use Prim.Native.Nat.{ℕ, _+_, _*_, _≤_, _<_}
 use lib.ListN.{length, take, drop}
 use Rattle.refusal.specs.Number.{numberOf}
 use Rattle.meaning.specs.Limits.{fluentLimit, actionLimit, logLimit}
-use Rattle.theory.specs.World.{stride}
+use Rattle.meaning.specs.Theory.{stride}
 use Rattle.sheet.specs.Forms.{moreForm}
 use Rattle.sheet.specs.Lines.{Sheet, Lines, line, none, actLines, lastLines, sheetLines, ReadAs, FaultIn}
 use Rattle.sheet.specs.Answer.{parsedOf, fronted}

@@ -9,7 +9,8 @@ use lib.ListN.{length, getD}
 use Rattle.meaning.specs.Limits.{fluentLimit, actionLimit, logLimit}
 use Rattle.meaning.specs.Refusal.{Accepted, BadCounts, BadTable, BadMasks, BadLog}
 use Rattle.meaning.proofs.Refusal.{not-first, not-rest}
-use Rattle.theory.specs.World.{stride, Readable}
+use Rattle.meaning.specs.Theory.{stride}
+use Rattle.theory.specs.World.{Readable}
 use Rattle.theory.specs.Rows.{worldRows}
 
 -- a world that no row refuses

@@ -4,15 +4,7 @@ use mathlib.Core.List.{List}
 use Prim.Native.Nat.{ℕ, _+_, _*_, _≤_, _<_}
 use lib.ListN.{length, getD}
 use Rattle.meaning.specs.Limits.{actionLimit, logLimit}
-use Rattle.meaning.specs.Theory.{Masks, World}
-
--- the four masks as the record of them
-abbrev pub masksOf : ℕ → ℕ → ℕ → ℕ → Masks
-masksOf need ban put drop = record { need = need; ban = ban; put = put; drop = drop }
-
--- how many masks of the table belong to one action
-abbrev pub stride : ℕ
-stride = 4
+use Rattle.meaning.specs.Theory.{Masks, World, masksOf, stride}
 
 -- action a of the table; one that the table lacks has empty masks
 abbrev pub tableMasks : List ℕ → ℕ → Masks

@@ -4,9 +4,9 @@ ghost use mathlib.Core.Logic.{_↔_};
 ghost use mathlib.Core.Bool.{true};
 ghost use Prim.Native.Nat.{ℕ, _+_, _*_, _≤_};
 ghost use lib.ListN.{length};
-ghost use Rattle.meaning.specs.Theory.{Possible};
+ghost use Rattle.meaning.specs.Theory.{Possible, stride, masksOf};
 ghost use Rattle.meaning.specs.Theory;
-ghost use Rattle.theory.specs.World.{stride, masksOf, tableMasks};
+ghost use Rattle.theory.specs.World.{tableMasks};
 use crate::STRIDE;
 
 // Every need bit is on and every ban bit off.

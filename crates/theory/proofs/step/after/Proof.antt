@@ -1,5 +1,5 @@
 -- `theory::step::after` meets its contract: the law of the word operations, at the widths of the arguments.
-use Rattle.theory.specs.World.{masksOf}
+use Rattle.meaning.specs.Theory.{masksOf}
 use Rattle.theory.proofs.Action.{after-word}
 use Rattle.theory.proofs.step.after.Statement.{statement}
 use Rattle.theory.proofs.step.after.Tie as tie

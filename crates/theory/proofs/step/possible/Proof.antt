@@ -1,7 +1,7 @@
 -- `theory::step::possible` meets its contract: the two tests are the two halves of `Possible`.
 use lib.Bits.{bitAnd}
 use borrow.Author.Tests.{eq-eqb, eqb-true}
-use Rattle.theory.specs.World.{masksOf}
+use Rattle.meaning.specs.Theory.{masksOf}
 use Rattle.theory.proofs.Action.{possible-iff}
 use Rattle.theory.proofs.step.possible.Statement.{statement}
 use Rattle.theory.proofs.step.possible.Tie as tie

@@ -7,9 +7,9 @@ use native.Mathlib.Omega.{arith}
 use denote.Ref.{now}
 use lib.ListN.{length, getD, length-replicate}
 use Rattle.meaning.specs.Limits.{fluentLimit}
-use Rattle.meaning.specs.Theory.{World, after, stateAt}
+use Rattle.meaning.specs.Theory.{World, after, stateAt, stride}
 use Rattle.meaning.proofs.Theory.{state-start, state-step}
-use Rattle.theory.specs.World.{stride, worldOf}
+use Rattle.theory.specs.World.{worldOf}
 use Rattle.theory.proofs.Transposed.{TakenBelow, ShownTo, taken-none, taken-more, shown-start, shown-more, describes, recount}
 use Rattle.theory.proofs.tables.transpose.Statement.{statement}
 use Rattle.theory.proofs.tables.transpose.Tie as tie
