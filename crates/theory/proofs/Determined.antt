@@ -15,7 +15,7 @@ use Rattle.meaning.proofs.Refusal.{refused-unique, refused-not-accepted}
 use Rattle.theory.specs.Answer.{numberGiven, stateGiven, StateAnswered}
 use Rattle.theory.specs.Check.{Settled}
 use Rattle.theory.specs.Union.{Union}
-use Rattle.theory.specs.Tables.{Describes, Noted, Turned}
+use Rattle.theory.specs.Tables.{Describes, Noted, Reversed}
 use Rattle.theory.specs.declared.Check.{Check}
 use Rattle.theory.specs.declared.Check.the-variants.{Sound, Refused as Faulty}
 use Rattle.theory.specs.declared.StateAnswer.{StateAnswer}
@@ -73,6 +73,6 @@ pub note-determined : (old new new′ : List ℕ) (a p : ℕ) (able : Bool) → 
 note-determined old new new′ a p able x y =
     same-table new new′ (x .room ∙ sym (y .room)) (λ b q. Iff·trans (x .bits b q) (Iff·symm (y .bits b q)))
 
-pub turn-determined : (old new new′ : List ℕ) (changed places : ℕ) → Turned old new changed places → Turned old new′ changed places → new ≡ new′
+pub turn-determined : (old new new′ : List ℕ) (changed places : ℕ) → Reversed old new changed places → Reversed old new′ changed places → new ≡ new′
 turn-determined old new new′ changed places x y =
     same-table new new′ (x .room ∙ sym (y .room)) (λ i q. let e = x .bits i q ∙ sym (y .bits i q) in (λ h. sym e ∙ h, λ h. e ∙ h))

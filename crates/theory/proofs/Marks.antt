@@ -18,7 +18,7 @@ use Rattle.laws.proofs.Bitwise.{on-or, on-xor}
 use Rattle.laws.proofs.Shift.{on-shl, on-one-shl, on-ones}
 use Rattle.laws.proofs.Truth.{same-truth, no-truth, and-iff, or-iff}
 use Rattle.meaning.specs.Limits.{places, logLimit, fluentLimit}
-use Rattle.theory.specs.Tables.{Noted, Turned}
+use Rattle.theory.specs.Tables.{Noted, Reversed}
 
 -- some bits more in one word of a table
 pub word-more : (old : List ℕ) (a word : ℕ) → a < length old → (b q : ℕ)
@@ -82,7 +82,7 @@ unfolding xor
 with-none true = refl
 with-none false = refl
 
-pub turn-none : (old : List ℕ) (changed at : ℕ) → Turned old old (bitXor changed changed) at
+pub turn-none : (old : List ℕ) (changed at : ℕ) → Reversed old old (bitXor changed changed) at
 turn-none old changed at = record { room = refl; bits = λ i q. rw (xor-self changed, on-none, and-false) (sym (with-none (on (getD old i 0) q))) }
 
 -- one fluent more is turned
@@ -99,8 +99,8 @@ one-turned false true true false = refl
 one-turned false true false true = refl
 one-turned false true false false = refl
 
-pub turn-more : {old new : List ℕ} (changed rest : ℕ) {at i : ℕ} → i < length old → i < fluentLimit → Turned old new (bitXor changed rest) at
-    → Turned old (set new i (bitXor (getD new i 0) at)) (bitXor changed (bitXor rest (1 * 2 ^ i % 2 ^ fluentLimit))) at
+pub turn-more : {old new : List ℕ} (changed rest : ℕ) {at i : ℕ} → i < length old → i < fluentLimit → Reversed old new (bitXor changed rest) at
+    → Reversed old (set new i (bitXor (getD new i 0) at)) (bitXor changed (bitXor rest (1 * 2 ^ i % 2 ^ fluentLimit))) at
 turn-more {old} {new} changed rest {at} {i} there low t =
     record {
       room = length-set new i _ ∙ t .room;
@@ -123,5 +123,5 @@ turn-more {old} {new} changed rest {at} {i} there low t =
     before j q = t .bits j q ∙ ap (λ (c : Bool). xor (on (getD old j 0) q) (on at q && c)) (on-xor changed rest j)
 
 -- every fluent that changed is turned
-pub turn-all : {old new : List ℕ} {changed rest at : ℕ} → rest ≡ 0 → Turned old new (bitXor changed rest) at → Turned old new changed at
-turn-all {old} {new} {changed} {rest} {at} none t = subst (λ (n : ℕ). Turned old new n at) (ap (bitXor changed) none ∙ xor-zero-r changed) t
+pub turn-all : {old new : List ℕ} {changed rest at : ℕ} → rest ≡ 0 → Reversed old new (bitXor changed rest) at → Reversed old new changed at
+turn-all {old} {new} {changed} {rest} {at} none t = subst (λ (n : ℕ). Reversed old new n at) (ap (bitXor changed) none ∙ xor-zero-r changed) t

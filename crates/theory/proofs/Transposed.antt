@@ -19,7 +19,7 @@ use Rattle.meaning.specs.Limits.{fluentLimit, actionLimit}
 use Rattle.meaning.specs.Theory.{Possible, World, stateAt, stepAt}
 use Rattle.meaning.proofs.Theory.{getElem-getD, getElem-within}
 use Rattle.theory.specs.World.{worldOf}
-use Rattle.theory.specs.Tables.{Describes, Noted, Turned}
+use Rattle.theory.specs.Tables.{Describes, Noted, Reversed}
 
 -- the table of actions, of the steps before position n
 pub record TakenBelow (w : World) (done : List ℕ) (n : ℕ) : Type 0 where
@@ -86,7 +86,7 @@ alone true false = refl
 alone false s = refl
 
 pub shown-start : (w : World) {new : List ℕ} {start at : ℕ} → start ≡ stateAt w 0 → ((q : ℕ) → on at q ≡ (leb 0 q && leb q (length (w .log))))
-    → Turned (replicate fluentLimit 0) new start at → ShownTo w new 0
+    → Reversed (replicate fluentLimit 0) new start at → ShownTo w new 0
 shown-start w {new} {start} {at} e from t =
     record {
       room = t .room ∙ length-replicate {A = ℕ} fluentLimit 0;
@@ -113,7 +113,7 @@ turns true false false = refl
 
 pub shown-more : (w : World) {old new : List ℕ} {p state next at : ℕ} → state ≡ stateAt w p → next ≡ stateAt w (p + 1)
     → ((q : ℕ) → on at q ≡ (leb (p + 1) q && leb q (length (w .log))))
-    → Turned old new (bitXor state next) at → ShownTo w old p → ShownTo w new (p + 1)
+    → Reversed old new (bitXor state next) at → ShownTo w old p → ShownTo w new (p + 1)
 shown-more w {old} {new} {p} {state} {next} {at} e f from t s =
     record {
       room = t .room ∙ s .room;

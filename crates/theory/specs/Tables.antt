@@ -26,6 +26,6 @@ pub record Noted (old new : List ℕ) (a p : ℕ) (able : Bool) : Type 0 where
       → (on (getD new b 0) q ≡ true) ↔ ((on (getD old b 0) q ≡ true) ⊎ ((able ≡ true) × (b ≡ a) × (q ≡ p)))
 
 -- each fluent that changed is the other way at these positions
-pub record Turned (old new : List ℕ) (changed places : ℕ) : Type 0 where
+pub record Reversed (old new : List ℕ) (changed places : ℕ) : Type 0 where
   pub room : length new ≡ length old
   pub bits : (i q : ℕ) → on (getD new i 0) q ≡ xor (on (getD old i 0) q) (on places q && on changed i)

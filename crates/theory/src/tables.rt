@@ -7,7 +7,7 @@ ghost use lib.ListN.{length};
 ghost use Rattle.laws.specs.Bit.{on};
 ghost use Rattle.meaning.specs.Limits.{fluentLimit, actionLimit, places};
 ghost use Rattle.theory.specs.World.{Readable, worldOf};
-ghost use Rattle.theory.specs.Tables.{Describes, Noted, Turned};
+ghost use Rattle.theory.specs.Tables.{Describes, Noted, Reversed};
 use crate::ACTION_LIMIT;
 use crate::FLUENT_LIMIT;
 use crate::step;
@@ -39,7 +39,7 @@ fn onward(p: usize, n: usize) -> u64
 // Each fluent that changed is the other way at these positions: a turn for each.
 fn turn(lit: &mut [u64; FLUENT_LIMIT], changed: u32, places: u64)
     requires { ⌜ length (now lit) ≡ fluentLimit ⌝ }
-    ensures { λ _. ⌜ Turned (now (lit .entry)) (now (lit .exit)) changed places ⌝ }
+    ensures { λ _. ⌜ Reversed (now (lit .entry)) (now (lit .exit)) changed places ⌝ }
 {
     let mut rest = changed;
     while rest != 0 {

@@ -10,13 +10,13 @@ use lib.Count.{trailingZeros}
 use lib.ListN.{length}
 use Rattle.laws.proofs.First.{lowest-within, lowest-later}
 use Rattle.meaning.specs.Limits.{fluentLimit}
-use Rattle.theory.specs.Tables.{Turned}
+use Rattle.theory.specs.Tables.{Reversed}
 use Rattle.theory.proofs.Marks.{turn-none, turn-more, turn-all}
 use Rattle.theory.proofs.tables.turn.Statement.{statement}
 use Rattle.theory.proofs.tables.turn.Tie as tie
 
 abbrev Inv-loop : tie.InvT-loop
-Inv-loop lit₀ changed places rest₀ lit rest = (rest < 2 ^ fluentLimit) × Turned lit₀ lit (bitXor changed rest) places
+Inv-loop lit₀ changed places rest₀ lit rest = (rest < 2 ^ fluentLimit) × Reversed lit₀ lit (bitXor changed rest) places
 
 abbrev μ-loop : tie.MeasureT-loop
 μ-loop lit₀ changed places rest₀ lit rest = fluentLimit - trailingZeros fluentLimit rest
