@@ -1,15 +1,16 @@
-/* A scheduler's question in ten lines: may label 2 be printed, and what is left to print? */
+/* A scheduler's question in ten lines: is label 1 out, and what is left to print? */
 #include "wyndhopper.h"
 #include <stdio.h>
 
 int main(void) {
     const uint32_t masks[8] = {0, 0, 1, 0, 1, 0, 2, 0};
     const uint8_t log[1] = {0};
-    uint8_t yes, left[6];
+    const struct wyh_job job = {2, 2, 0, masks, 8, log, 1};
+    uint8_t yes, left[WYH_FINISH_ROOM];
     size_t count;
-    uint8_t refused = wyh_verdict(2, 2, 0, masks, 8, log, 1, (const uint8_t *)"f00", 3, 1, 1, &yes);
+    uint8_t refused = wyh_job_verdict(&job, (const uint8_t *)"f00", 3, 1, 1, &yes);
     printf("label 1 is out: refusal %d, yes %d\n", refused, yes);
-    refused = wyh_finish(2, 2, 0, masks, 8, log, 1, (const uint8_t *)";a00a01", 7, 6, left, 6, &count);
-    printf("left to print: refusal %d, count %zu, first %d\n", refused, count, left[0]);
+    refused = wyh_job_finish(&job, (const uint8_t *)";a00a01", 7, 6, left, sizeof left, &count);
+    printf("left to print: refusal %d, count %d, first %d\n", refused, (int)count, left[0]);
     return 0;
 }

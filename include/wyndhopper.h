@@ -1,12 +1,21 @@
 /* Wyndhopper: the order of labels within a job, settled by the rule on the job's sheet.
  *
- * Every call takes every input: what cannot be answered is refused by a number from the table in docs/REFUSALS.md, and 0 means that there is no refusal.
- * Where several numbers apply the smallest is given, except that 12 comes before 11. Every call ends. Nothing is kept between calls, and no call allocates.
- * A pointer with a length is read (const) or lent to be written; with length 0 it may be anything but NULL. Slots for single numbers are always written.
+ * Each call takes every input and returns the number of its refusal, 0 for none (WYH_REFUSED_.. below; docs/REFUSALS.md says what to look for). Where several
+ * numbers apply the smallest is given, except that 12 comes before 11. Slots for single answers are always written, on a refusal with the values named here;
+ * lent output keeps every byte then, and behind what is written otherwise.
  *
- * A theory is `fluents` (0 to 32), `actions` (1 to 64), the start state, and a mask table of four masks an action, need, ban, put, drop, in order of action
- * number: masks_len is 4 * actions. A log is 0 to 63 bytes, one action each; steps that were not possible are accepted. A rule is 1 to 255 bytes of text.
- * A kind is WYH_TEST, WYH_WALK or WYH_JOB; any other number has no rule of its kind, so it is refused as 6.
+ * What a program must see to: pointers are valid and aligned for what they point to; lent memory (output and slots) overlaps nothing else that is passed.
+ *
+ * What a call may cost.
+ *   Time: every call ends; a usual question takes about a microsecond. Two kinds of rule can take far longer, and no call has a bound on its time: `?` nested five
+ *         deep or more, and stars nested three deep or more whose bodies have a `?`; and a finish whose run asks for any action (`n`) and comes to no end, which tries up to
+ *         `actions` to the power of `more` sequences. docs/BENCHMARKS.md has the times.
+ *   Stack: measured, less than 32 kilobytes; no heap.
+ *   Threads: nothing is kept between calls, so any number of threads may call at once, each with lent memory of its own.
+ *
+ * A job is a theory and a log. The theory: `fluents` (0 to 32), `actions` (1 to 64), the start state, and a mask table of four masks an action, need, ban, put, drop,
+ * in order of action number: masks_len is 4 * actions. The log: 0 to 63 bytes, one action each; steps that were not possible are accepted. A rule is 1 to 255 bytes
+ * of text (docs/LANGUAGE.md).
  */
 #ifndef WYNDHOPPER_H
 #define WYNDHOPPER_H
@@ -14,45 +23,242 @@
 #include <stddef.h>
 #include <stdint.h>
 
+#define WYH_VERSION "0.2.0"
+
 #ifdef __cplusplus
 extern "C" {
 #endif
 
-enum { WYH_TEST = 0, WYH_WALK = 1, WYH_JOB = 2 };
+/* What a rule is used as: a test, a walk (questions only), or a walk to be carried out, as on a sheet's run line. Any other number has no rule of its kind, so it is
+ * refused as 6. */
+enum { WYH_TEST = 0, WYH_WALK = 1, WYH_RUN = 2 };
+
+/* The refusals. */
+enum {
+    WYH_REFUSED_SHEET_TOO_LONG = 1,
+    WYH_REFUSED_BAD_LINE = 2,
+    WYH_REFUSED_BAD_NUMBER = 3,
+    WYH_REFUSED_LACKS_FLUENT = 4,
+    WYH_REFUSED_BAD_LOG = 5,
+    WYH_REFUSED_BAD_RULE = 6,
+    WYH_REFUSED_LACKS_NAME = 7,
+    WYH_REFUSED_TOO_DEEP = 8,
+    WYH_REFUSED_BACKWARD = 9,
+    WYH_REFUSED_BAD_POSITION = 10,
+    WYH_REFUSED_NO_FINISH = 11,
+    WYH_REFUSED_SHORT_OUTPUT = 12
+};
+
+/* A set of positions has so many words of 64, lowest positions first; bit q of the first word is position q. */
+enum { WYH_SET_WORDS = 1 };
+
+/* The earliest position of an empty set. */
+enum { WYH_NO_POSITION = 64 };
+
+/* The longest normal form and the longest finishing sequence. */
+enum { WYH_RULE_ROOM = 255, WYH_FINISH_ROOM = 6 };
 
 /* The longest answer to a sheet fits in so many bytes. */
 enum { WYH_ANSWER_ROOM = 64 };
 
-/* The state at a position of the log, 0 to log_len, in *state. Refusals 3, 4, 5, 10; *state is then 0. */
+/* What reading a sheet is lent: four masks for each of 64 actions, a log and a byte, and so many numbers. */
+enum { WYH_MASKS_ROOM = 256, WYH_LOG_ROOM = 64, WYH_SHEET_NUMBERS = 10 };
+
+/* ---- The calls over a job --------------------------------------------------------------------------------------------------------------------------------- */
+
+/* A job. Begin with `struct wyh_job job = WYH_JOB_EMPTY;` and set what it has: later versions add fields, and zero in them means what this version does. */
+struct wyh_job {
+    size_t fluents, actions;
+    uint32_t start;
+    const uint32_t *masks;
+    size_t masks_len;
+    const uint8_t *log;
+    size_t log_len;
+};
+
+#define WYH_JOB_EMPTY {0, 0, 0, NULL, 0, NULL, 0}
+
+/* The positions that a walk leads to. */
+struct wyh_reached {
+    uint64_t set[WYH_SET_WORDS];
+    size_t count;
+    size_t earliest;
+};
+
+/* What a sheet says: the job, whose masks and log stand in the lent arrays; the rules of its ask and run lines, which stand in the sheet's text; the bound on actions still to come. For a refused sheet
+ * the line of the fault (0 for a sheet that is too long), and zero in all else. */
+struct wyh_sheet {
+    size_t line;
+    struct wyh_job job;
+    const uint8_t *ask;
+    size_t ask_len;
+    const uint8_t *run;
+    size_t run_len;
+    size_t more;
+};
+
+/* In these calls a pointer whose length is 0 may be NULL.
+ *
+ *   wyh_job_state       the state at a position of the log, 0 to log_len, in *state. Refusals 3, 4, 5, 10; *state is then 0.
+ *   wyh_job_reach       the positions that a walk leads to from `then` with `now`. Refusals 3 to 8, 10; then the set is empty, the count 0, the earliest WYH_NO_POSITION.
+ *   wyh_job_verdict     whether a test is true at (then, now): *yes is 1 or 0. Refusals 3 to 8, 10; *yes is then 0.
+ *   wyh_job_possible    whether an action may be taken at a position: its need bits are on and its ban bits off in the state there; *yes is 1 or 0. Refusals 3, 4, 5, 7 (the theory
+ *                       lacks the action), 10; *yes is then 0.
+ *   wyh_job_next        the actions that may come next: those that the run waits for at the log's end and that are possible there; bit a of *actions is action a. Refusals 3 to 9;
+ *                       *actions is then 0.
+ *   wyh_job_finish      the first sequence of at most `more` (0 to 6) actions that finishes the run, at the front of out; *count is its length. Refusals 3 to 9, 12
+ *                       (room is less than more), 11 (no such sequence); then *count is 0.
+ *   wyh_job_read_rule   reads one rule: *rest is where the unread rest of the text begins; a rest is no fault. Refusals 3, 6 to 9; *rest is then text_len.
+ *   wyh_job_normal      the normal form of a rule, in which no `-` is left, at the front of out; *count is its length. Refusals 3, 6 to 9, 12 (room is less than that);
+ *                       then *count is 0.
+ *
+ * The last two look at the job's counts alone.
+ *
+ *   wyh_job_read_sheet  reads a whole sheet: masks and log go to the front of the lent arrays, and *sheet says the rest. Refusals 1 to 9, for the first faulty line; then masks and log
+ *                       keep what they hold. */
+static inline uint8_t wyh_job_state(const struct wyh_job *job, size_t position, uint32_t *state);
+static inline uint8_t wyh_job_reach(const struct wyh_job *job, const uint8_t *walk, size_t walk_len, size_t then, size_t now, struct wyh_reached *reached);
+static inline uint8_t wyh_job_verdict(const struct wyh_job *job, const uint8_t *test, size_t test_len, size_t then, size_t now, uint8_t *yes);
+static inline uint8_t wyh_job_possible(const struct wyh_job *job, size_t action, size_t position, uint8_t *yes);
+static inline uint8_t wyh_job_next(const struct wyh_job *job, const uint8_t *run, size_t run_len, uint64_t *actions);
+static inline uint8_t wyh_job_finish(const struct wyh_job *job, const uint8_t *run, size_t run_len, size_t more, uint8_t *out, size_t room, size_t *count);
+static inline uint8_t wyh_job_read_rule(const struct wyh_job *job, uint8_t kind, const uint8_t *text, size_t text_len, size_t *rest);
+static inline uint8_t wyh_job_normal(const struct wyh_job *job, uint8_t kind, const uint8_t *text, size_t text_len, uint8_t *out, size_t room, size_t *count);
+static inline uint8_t wyh_job_read_sheet(const uint8_t *text, size_t text_len, uint32_t masks[WYH_MASKS_ROOM], uint8_t log[WYH_LOG_ROOM], struct wyh_sheet *sheet);
+
+/* A refusal's sentence, for a message; 0 is "not refused". */
+static inline const char *wyh_refusal_sentence(uint8_t number);
+
+/* ---- The exported functions ------------------------------------------------------------------------------------------------------------------------------- *
+ * The same calls with loose numbers. Here a pointer with length 0 may be anything but NULL. */
+
 uint8_t wyh_state(size_t fluents, size_t actions, uint32_t start, const uint32_t *masks, size_t masks_len, const uint8_t *log, size_t log_len,
                   size_t position, uint32_t *state);
 
-/* The positions that a walk leads to from `then` with `now`: *set has bit q for position q, *count is how many, *earliest the first of them, 64 when there is
- * none. Refusals 3, 4, 5, 6, 7, 8, 10; then the set is 0, the count 0, the earliest 64. */
 uint8_t wyh_reach(size_t fluents, size_t actions, uint32_t start, const uint32_t *masks, size_t masks_len, const uint8_t *log, size_t log_len,
                   const uint8_t *walk, size_t walk_len, size_t then, size_t now, uint64_t *set, uint32_t *count, uint32_t *earliest);
 
-/* Whether a test is true at (then, now): *yes is 1 or 0. Refusals 3, 4, 5, 6, 7, 8, 10; *yes is then 0. */
 uint8_t wyh_verdict(size_t fluents, size_t actions, uint32_t start, const uint32_t *masks, size_t masks_len, const uint8_t *log, size_t log_len,
                     const uint8_t *test, size_t test_len, size_t then, size_t now, uint8_t *yes);
 
-/* Reads one rule: *rest is where the unread rest of the text begins; a rest is no fault. Refusals 3, 6 (the text is empty, over 255 bytes, or opens with no rule
- * of that kind), 7, 8, 9; *rest is then text_len: the rest is empty. */
+uint8_t wyh_possible(size_t fluents, size_t actions, uint32_t start, const uint32_t *masks, size_t masks_len, const uint8_t *log, size_t log_len,
+                     size_t action, size_t position, uint8_t *yes);
+
+uint8_t wyh_next(size_t fluents, size_t actions, uint32_t start, const uint32_t *masks, size_t masks_len, const uint8_t *log, size_t log_len,
+                 const uint8_t *run, size_t run_len, uint64_t *next);
+
+uint8_t wyh_finish(size_t fluents, size_t actions, uint32_t start, const uint32_t *masks, size_t masks_len, const uint8_t *log, size_t log_len,
+                   const uint8_t *run, size_t run_len, size_t more, uint8_t *out, size_t room, size_t *count);
+
 uint8_t wyh_read_rule(const uint8_t *text, size_t text_len, uint8_t kind, size_t fluents, size_t actions, size_t *rest);
 
-/* Writes the normal form of a rule, in which no `-` is left, to the front of out; the bytes after it keep their content. *count is its length. Refusals 3, 6,
- * 7, 8, 9, 12 (room is less than the normal form's length); then *count is 0 and no byte of out is changed. */
 uint8_t wyh_normal(const uint8_t *text, size_t text_len, uint8_t kind, size_t fluents, size_t actions, uint8_t *out, size_t room, size_t *count);
 
-/* Writes the first sequence of at most `more` (0 to 6) actions that finishes the job, shorter before longer, then smaller action number at the first difference, to
- * the front of out; the bytes after it keep their content. *count is its length. Log and sequence together have at most 63 actions. Refusals 3, 4, 5, 6, 7, 8,
- * 9, 12 (room is less than more), 11 (no such sequence); then *count is 0 and no byte of out is changed. */
-uint8_t wyh_finish(size_t fluents, size_t actions, uint32_t start, const uint32_t *masks, size_t masks_len, const uint8_t *log, size_t log_len,
-                   const uint8_t *job, size_t job_len, size_t more, uint8_t *out, size_t room, size_t *count);
+/* Reads a sheet. The numbers are: the line of the refusal, fluents, actions, start, steps of the log, where the ask rule begins and ends in the sheet, where the run rule does, more; on a refusal all
+ * are 0 but the line. */
+uint8_t wyh_read_sheet(const uint8_t *sheet, size_t sheet_len, uint32_t masks[WYH_MASKS_ROOM], uint8_t log[WYH_LOG_ROOM], size_t numbers[WYH_SHEET_NUMBERS]);
 
-/* Writes what the program jobsheet prints for a sheet to the front of out, which has WYH_ANSWER_ROOM bytes, and returns how many bytes that is; the bytes after
- * it keep their content. A refused sheet gives `refused=N,line=M`. */
+/* Writes what the program jobsheet prints for a sheet to the front of out, which has WYH_ANSWER_ROOM bytes, and returns how many bytes that is. A refused sheet
+ * gives `refused=N,line=M`. */
 size_t wyh_answer(const uint8_t *sheet, size_t sheet_len, uint8_t *out);
+
+/* ---- How the calls over a job are made of the exported functions ------------------------------------------------------------------------------------------ */
+
+/* Something to point to where a length is 0. */
+static inline const uint8_t *wyh_bytes(const uint8_t *bytes, size_t length) {
+    static const uint8_t nothing[1] = {0};
+    return length == 0 ? nothing : bytes;
+}
+
+static inline const uint32_t *wyh_masks(const struct wyh_job *job) {
+    static const uint32_t nothing[1] = {0};
+    return job->masks_len == 0 ? nothing : job->masks;
+}
+
+static inline uint8_t wyh_job_state(const struct wyh_job *job, size_t position, uint32_t *state) {
+    return wyh_state(job->fluents, job->actions, job->start, wyh_masks(job), job->masks_len, wyh_bytes(job->log, job->log_len), job->log_len,
+                     position, state);
+}
+
+static inline uint8_t wyh_job_reach(const struct wyh_job *job, const uint8_t *walk, size_t walk_len, size_t then, size_t now, struct wyh_reached *reached) {
+    uint32_t count, earliest;
+    uint8_t refused = wyh_reach(job->fluents, job->actions, job->start, wyh_masks(job), job->masks_len, wyh_bytes(job->log, job->log_len), job->log_len,
+                                wyh_bytes(walk, walk_len), walk_len, then, now, &reached->set[0], &count, &earliest);
+    reached->count = count;
+    reached->earliest = earliest;
+    return refused;
+}
+
+static inline uint8_t wyh_job_verdict(const struct wyh_job *job, const uint8_t *test, size_t test_len, size_t then, size_t now, uint8_t *yes) {
+    return wyh_verdict(job->fluents, job->actions, job->start, wyh_masks(job), job->masks_len, wyh_bytes(job->log, job->log_len), job->log_len,
+                       wyh_bytes(test, test_len), test_len, then, now, yes);
+}
+
+static inline uint8_t wyh_job_possible(const struct wyh_job *job, size_t action, size_t position, uint8_t *yes) {
+    return wyh_possible(job->fluents, job->actions, job->start, wyh_masks(job), job->masks_len, wyh_bytes(job->log, job->log_len), job->log_len,
+                        action, position, yes);
+}
+
+static inline uint8_t wyh_job_next(const struct wyh_job *job, const uint8_t *run, size_t run_len, uint64_t *actions) {
+    return wyh_next(job->fluents, job->actions, job->start, wyh_masks(job), job->masks_len, wyh_bytes(job->log, job->log_len), job->log_len,
+                    wyh_bytes(run, run_len), run_len, actions);
+}
+
+static inline uint8_t wyh_job_finish(const struct wyh_job *job, const uint8_t *run, size_t run_len, size_t more, uint8_t *out, size_t room, size_t *count) {
+    uint8_t nothing[1] = {0};
+    return wyh_finish(job->fluents, job->actions, job->start, wyh_masks(job), job->masks_len, wyh_bytes(job->log, job->log_len), job->log_len,
+                      wyh_bytes(run, run_len), run_len, more, room == 0 ? nothing : out, room, count);
+}
+
+static inline uint8_t wyh_job_read_rule(const struct wyh_job *job, uint8_t kind, const uint8_t *text, size_t text_len, size_t *rest) {
+    return wyh_read_rule(wyh_bytes(text, text_len), text_len, kind, job->fluents, job->actions, rest);
+}
+
+static inline uint8_t wyh_job_normal(const struct wyh_job *job, uint8_t kind, const uint8_t *text, size_t text_len, uint8_t *out, size_t room, size_t *count) {
+    uint8_t nothing[1] = {0};
+    return wyh_normal(wyh_bytes(text, text_len), text_len, kind, job->fluents, job->actions, room == 0 ? nothing : out, room, count);
+}
+
+static inline uint8_t wyh_job_read_sheet(const uint8_t *text, size_t text_len, uint32_t masks[WYH_MASKS_ROOM], uint8_t log[WYH_LOG_ROOM], struct wyh_sheet *sheet) {
+    const struct wyh_job empty = WYH_JOB_EMPTY;
+    size_t numbers[WYH_SHEET_NUMBERS];
+    uint8_t refused = wyh_read_sheet(wyh_bytes(text, text_len), text_len, masks, log, numbers);
+    sheet->line = numbers[0];
+    sheet->job = empty;
+    sheet->ask = refused ? NULL : text + numbers[5];
+    sheet->ask_len = numbers[6] - numbers[5];
+    sheet->run = refused ? NULL : text + numbers[7];
+    sheet->run_len = numbers[8] - numbers[7];
+    sheet->more = numbers[9];
+    if (refused) return refused;
+    sheet->job.fluents = numbers[1];
+    sheet->job.actions = numbers[2];
+    sheet->job.start = (uint32_t)numbers[3];
+    sheet->job.masks = masks;
+    sheet->job.masks_len = 4 * numbers[2];
+    sheet->job.log = log;
+    sheet->job.log_len = numbers[4];
+    return 0;
+}
+
+static inline const char *wyh_refusal_sentence(uint8_t number) {
+    switch (number) {
+    case 0: return "not refused";
+    case WYH_REFUSED_SHEET_TOO_LONG: return "the sheet is longer than 3,263 bytes";
+    case WYH_REFUSED_BAD_LINE: return "the expected key and '=' do not open the line, or its LF is missing, or bytes follow the last line";
+    case WYH_REFUSED_BAD_NUMBER: return "a count, the start state, a mask, the version or more is not written as it should be or out of its range, or a mask table has the wrong length";
+    case WYH_REFUSED_LACKS_FLUENT: return "start or an action's mask names a fluent the theory lacks";
+    case WYH_REFUSED_BAD_LOG: return "the log has an odd number of digits, a non-digit, more than 63 actions, or an action the theory lacks";
+    case WYH_REFUSED_BAD_RULE: return "a rule is empty, over 255 bytes, or not exactly one rule of its kind";
+    case WYH_REFUSED_LACKS_NAME: return "a rule, or the call, names an action or fluent the theory lacks";
+    case WYH_REFUSED_TOO_DEEP: return "a rule is nested more than 24 deep";
+    case WYH_REFUSED_BACKWARD: return "a backward sign stands in a run outside every '<' walk";
+    case WYH_REFUSED_BAD_POSITION: return "then is after now, or now or the position asked is past the log's end";
+    case WYH_REFUSED_NO_FINISH: return "no sequence of so many actions finishes the run";
+    case WYH_REFUSED_SHORT_OUTPUT: return "the lent output is shorter than the normal form, or than more";
+    default: return "no refusal has this number";
+    }
+}
 
 #ifdef __cplusplus
 }

@@ -1,4 +1,4 @@
-//! The functions of include/wyndhopper.h. Nothing checks these lines against the library, so they are few and all here.
+//! The functions of include/wyndhopper.h. A test holds these lines, the header and the library's exports against one another (tests/declarations.rs).
 
 extern "C" {
     pub fn wyh_state(
@@ -45,6 +45,34 @@ extern "C" {
         yes: *mut u8,
     ) -> u8;
 
+    pub fn wyh_possible(
+        fluents: usize,
+        actions: usize,
+        start: u32,
+        masks: *const u32,
+        masks_len: usize,
+        log: *const u8,
+        log_len: usize,
+        action: usize,
+        position: usize,
+        yes: *mut u8,
+    ) -> u8;
+
+    pub fn wyh_next(
+        fluents: usize,
+        actions: usize,
+        start: u32,
+        masks: *const u32,
+        masks_len: usize,
+        log: *const u8,
+        log_len: usize,
+        run: *const u8,
+        run_len: usize,
+        next: *mut u64,
+    ) -> u8;
+
+    pub fn wyh_read_sheet(sheet: *const u8, sheet_len: usize, masks: *mut u32, log: *mut u8, numbers: *mut usize) -> u8;
+
     pub fn wyh_read_rule(text: *const u8, text_len: usize, kind: u8, fluents: usize, actions: usize, rest: *mut usize) -> u8;
 
     pub fn wyh_normal(
@@ -66,8 +94,8 @@ extern "C" {
         masks_len: usize,
         log: *const u8,
         log_len: usize,
-        job: *const u8,
-        job_len: usize,
+        run: *const u8,
+        run_len: usize,
         more: usize,
         out: *mut u8,
         room: usize,

@@ -38,12 +38,28 @@ fn told(count: usize, out: &[u8; 6]) -> [u64; 3] {
     [count as u64, out.iter().fold(0, |all, &a| all << 8 | u64::from(a)), 0]
 }
 
-/// The two crates have the same calls; the plain one has them a second time, quicker.
+/// The proved library, through its safe Rust crate.
+pub fn ours(c: &Case) -> Answer {
+    let t = &c.theory;
+    let job = wyndhopper::Job::new(t.fluents, t.actions(), &t.masks).with_start(t.start).with_log(&c.log);
+    let now = c.log.len();
+    let answer = match &c.ask {
+        Ask::Verdict { test, then } => job.verdict(test.as_bytes(), *then, now).map(|yes| [u64::from(yes), 0, 0]),
+        Ask::Reach { walk, then } => job.reach(walk.as_bytes(), *then, now).map(|r| [r.set[0], r.count as u64, r.earliest as u64]),
+        Ask::Finish { job: run, more } => {
+            let mut out = [0; 6];
+            job.finish(run.as_bytes(), *more, &mut out).map(|count| told(count, &out))
+        }
+    };
+    answer.map_err(wyndhopper::Refusal::number)
+}
+
+/// The plain crate has each call a second time, quicker.
 macro_rules! engine {
-    ($name:ident, $of:ident, $verdict:ident, $reach:ident, $finish:ident) => {
+    ($name:ident, $verdict:ident, $reach:ident, $finish:ident) => {
         pub fn $name(c: &Case) -> Answer {
             let t = &c.theory;
-            let job = $of::Job { fluents: t.fluents, actions: t.actions(), start: t.start, masks: &t.masks, log: &c.log };
+            let job = plain::Job { fluents: t.fluents, actions: t.actions(), start: t.start, masks: &t.masks, log: &c.log };
             let now = c.log.len();
             match &c.ask {
                 Ask::Verdict { test, then } => job.$verdict(test.as_bytes(), *then, now).map(|yes| [u64::from(yes), 0, 0]),
@@ -59,9 +75,8 @@ macro_rules! engine {
     };
 }
 
-engine!(ours, wyndhopper, verdict, reach, finish);
-engine!(plain, plain, verdict, reach, finish);
-engine!(quick, plain, quick_verdict, quick_reach, quick_finish);
+engine!(plain, verdict, reach, finish);
+engine!(quick, quick_verdict, quick_reach, quick_finish);
 
 /// How often the search asks the job, in the plain implementation, which takes the same steps.
 pub fn turns(c: &Case) -> Option<usize> {

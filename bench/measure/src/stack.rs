@@ -52,12 +52,13 @@ fn rules(way: &Way, accepted: bool) -> (String, String, String) {
 
 fn texts(deepest: &mut [Deepest; 2], text: &str, kind: wyndhopper::Kind) {
     let t = text.as_bytes();
+    let job = wyndhopper::Job::new(1, 2, &[]);
     deepest[0].try_call(text, &mut || {
-        black_box(wyndhopper::read_rule(black_box(t), kind, 1, 2)).ok();
+        black_box(job.read_rule(kind, black_box(t))).ok();
     });
     let mut out = [0; 255];
     deepest[1].try_call(text, &mut || {
-        black_box(wyndhopper::normal(black_box(t), kind, 1, 2, &mut out)).ok();
+        black_box(job.normal(kind, black_box(t), &mut out)).ok();
     });
 }
 

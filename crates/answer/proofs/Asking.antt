@@ -1,46 +1,42 @@
--- A legal sheet can be asked everything: row by row, no call about it is refused, but for 11.
-use mathlib.Core.Path.{_≡_}
+-- A legal sheet can be asked everything: no call about it is refused before it is answered.
 use mathlib.Core.Logic.{_⊎_, ⊎-elim}
-use Prim.Native.Nat.{ℕ, _<_}
+use mathlib.Core.Bool.{true}
+use mathlib.Core.List.{_++_}
+use Prim.Native.Nat.{_<_}
 use native.Mathlib.Omega.{arith}
 use lib.ListN.{length}
-use Rattle.meaning.proofs.Refusal.{accepts, passes, not-first, not-rest}
+use Rattle.meaning.specs.Limits.{moreLimit}
+use Rattle.meaning.specs.Rule.{testKind, jobKind}
+use Rattle.meaning.proofs.Refusal.{accepts, passes, not-rest, accepted-both}
+use Rattle.theory.specs.Subject.{countsOf}
+use Rattle.theory.specs.Rows.{worldRows}
+use Rattle.rule.specs.Outcome.{textRows}
+use Rattle.ask.specs.Rows.{timeRows}
+use Rattle.finish.specs.Next.{nextRows}
+use Rattle.finish.specs.Rows.{roomRows}
 use Rattle.sheet.specs.Lines.{Sheet}
 use Rattle.sheet.specs.Legal.{Legal}
-use Rattle.answer.specs.Printed.{endOf}
+use Rattle.answer.specs.Outcome.{endOf}
 use Rattle.answer.specs.Respond.{Askable}
-
--- a row that does not hold gives no number
-skip : {n k : ℕ} {given rest : Type 0} → (given → ⊥) → ((k ≡ n) × given) ⊎ rest → rest
-skip bad = ⊎-elim (λ h. absurd (bad (h .1))) (λ r. r)
 
 module _ (s : Sheet) (legal : Legal s) where
   -- the end is not past the end
-  here : length (s .log) < endOf s → ⊥
-  here l = omega arith
-
-  timely : (endOf s < endOf s) ⊎ (length (s .log) < endOf s) → ⊥
+  timely : (endOf s < endOf s) ⊎ (length (s .subject .log) < endOf s) → ⊥
   timely = ⊎-elim (λ l. omega arith) (λ l. omega arith)
 
   pub askable : Askable s
   askable =
-      let world = legal .world in
-      let ask = not-rest (legal .ask) in
-      let run = not-rest (legal .run) in
+      let counts = countsOf (s .subject) in
+      let asks = textRows true testKind (s .ask) counts in
+      let runs = textRows true jobKind (s .run) counts in
+      let few : ¬ (moreLimit < s .more) = legal .more in
       record {
         asked =
-            passes (not-first world)
-            (passes (not-first (not-rest world))
-            (passes (not-first (not-rest (not-rest world)))
-            (passes (not-first ask) (passes (not-first (not-rest ask)) (passes (not-first (not-rest (not-rest ask))) (passes (not-first (not-rest (not-rest (not-rest ask)))) (passes timely accepts)))))));
-        stated =
-            passes (not-first world) (passes (not-first (not-rest world)) (passes (not-first (not-rest (not-rest world))) (passes here accepts)));
-        sought = λ k a.
-            ⊎-elim (λ h. h .0) absurd
-            (skip (legal .more)
-            (skip (not-first (not-rest (not-rest (not-rest run))))
-            (skip (not-first (not-rest (not-rest run)))
-            (skip (not-first (not-rest run))
-            (skip (not-first run)
-            (skip (not-first (not-rest (not-rest world))) (skip (not-first (not-rest world)) (skip (not-first world) (skip (legal .more) a)))))))));
+            accepted-both (worldRows (s .subject)) (asks ++ timeRows (s .subject) (endOf s) (endOf s)) (legal .world)
+            (accepted-both asks (timeRows (s .subject) (endOf s) (endOf s)) (not-rest (legal .ask)) (passes timely accepts));
+        sought =
+            passes (legal .more)
+            (accepted-both (nextRows (s .subject) (s .run)) (roomRows (s .more) moreLimit)
+            (accepted-both (worldRows (s .subject)) runs (legal .world) (not-rest (legal .run)))
+            (passes (λ h. few h) accepts));
       }

@@ -6,12 +6,15 @@ use mathlib.Core.Option.{Option, some, none}
 use Prim.Native.Nat.{ℕ, _≤_, _<_}
 use native.Mathlib.Omega.{arith}
 use lib.ListN.{length, length-append}
+use Rattle.refusal.specs.Number.{numberOf}
+use Rattle.refusal.specs.declared.Refusal.{Refusal}
+use Rattle.refusal.specs.declared.Refusal.the-variants.{SheetTooLong, BadLine, BadNumber, LacksFluent, BadLog, BadRule, LacksName, TooDeep, BackwardJob, BadPosition, NoFinish, ShortOutput}
 use Rattle.meaning.specs.Limits.{moreLimit}
-use Rattle.sheet.specs.Numeral.{hex8}
-use Rattle.sheet.proofs.Numeral.{length-numeral}
-use Rattle.sheet.proofs.LogText.{log-long}
+use Rattle.spelling.specs.Numeral.{hex8}
+use Rattle.spelling.proofs.Numeral.{length-numeral}
+use Rattle.spelling.proofs.LogText.{log-long}
 use Rattle.answer.specs.Text.{line, yesNo, finishText, answerText, refusalText}
-use Rattle.answer.proofs.Digits.{length-decimal}
+use Rattle.spelling.proofs.Plain.{length-decimal}
 
 pub verdict-length : (verdict : Bool) → length (line "verdict=" (yesNo verdict)) ≤ 12
 verdict-length true = omega arith
@@ -38,3 +41,18 @@ answer-length verdict word finish short =
 pub refusal-length : (number place : ℕ) → number < 1000 → place < 1000 → length (refusalText number place) ≤ 21
 unfolding refusalText
 refusal-length number place few low = simp length-append (omega (arith, length-decimal number few, length-decimal place low))
+
+-- a refusal's number has three digits at most
+pub number-small : (r : Refusal) → numberOf r < 1000
+number-small SheetTooLong = omega arith
+number-small BadLine = omega arith
+number-small BadNumber = omega arith
+number-small LacksFluent = omega arith
+number-small BadLog = omega arith
+number-small BadRule = omega arith
+number-small LacksName = omega arith
+number-small TooDeep = omega arith
+number-small BackwardJob = omega arith
+number-small BadPosition = omega arith
+number-small NoFinish = omega arith
+number-small ShortOutput = omega arith

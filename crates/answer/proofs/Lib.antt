@@ -1,7 +1,4 @@
-pub mod Writing
-pub mod Digits
 pub mod Lengths
-pub mod Places
 pub mod Asking
 pub mod Calls
 pub mod Handing

@@ -1,6 +1,4 @@
-pub mod Decimal
+pub mod Outcome
 pub mod Text
-pub mod Printed
-pub mod Wrote
+pub mod Written
 pub mod Respond
-pub mod Told

@@ -5,9 +5,9 @@ use mathlib.Core.Option.{Option, some, none}
 use Prim.Native.Nat.{ℕ}
 use Prim.Native.String.{String}
 use Rattle.laws.specs.Text.{bytes}
-use Rattle.sheet.specs.Limits.{lf}
-use Rattle.sheet.specs.Numeral.{hex8, logText}
-use Rattle.answer.specs.Decimal.{decimal}
+use Rattle.spelling.specs.Numeral.{lf, hex8, logText}
+use Rattle.spelling.specs.Decimal.{decimal}
+use Rattle.answer.specs.Outcome.{Told, refused, answered}
 
 -- lines, "each ended by one LF"
 abbrev pub line : String → List ℕ → List ℕ
@@ -31,3 +31,8 @@ answerText verdict state finish =
 -- "A refused sheet gives one such line, `refused=N,line=M`, in plain decimals."
 unfoldable pub refusalText : ℕ → ℕ → List ℕ
 refusalText number place = line "refused=" (decimal number ++ bytes ",line=" ++ decimal place)
+
+-- the text of an outcome
+abbrev pub textOf : Told → List ℕ
+textOf (refused number line) = refusalText number line
+textOf (answered verdict state finish) = answerText verdict state finish

@@ -1,13 +1,12 @@
 // The lines that are printed, each ended by one LF. Knows no sheet.
-ghost use mathlib.Core.Path.{_≡_};
 ghost use mathlib.Core.Option.{some, none};
-ghost use Prim.Native.Nat.{ℕ, _+_, _*_, _≤_, _<_};
+ghost use Prim.Native.Nat.{_+_, _*_, _≤_, _<_};
 ghost use lib.ListN.{length};
-ghost use Rattle.sheet.specs.Numeral.{hex8, logText};
+ghost use Rattle.spelling.specs.Numeral.{hex8};
 ghost use Rattle.meaning.specs.Limits.{moreLimit};
 ghost use Rattle.answer.specs.Text.{line, yesNo, finishText, answerText, refusalText};
-ghost use Rattle.answer.specs.Wrote.{Wrote};
-use crate::put;
+ghost use Rattle.spelling.specs.Wrote.{Wrote};
+use spelling::put;
 
 // The verdict.
 pub(crate) fn verdict(out: &mut [u8], to: usize, yes: bool) -> usize

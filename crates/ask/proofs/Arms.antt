@@ -1,7 +1,7 @@
 -- The evaluator's arms, sign by sign: what its parts' answers make of the answer for the whole sign, forwards and backwards. Opens the meaning's table;
 -- knows no text and no code.
-use mathlib.Core.Path.{_≡_, refl, sym, subst, _∙_}
-use mathlib.Core.Logic.{_↔_, _⊎_, inl, inr}
+use mathlib.Core.Path.{_≡_, sym, _∙_}
+use mathlib.Core.Logic.{_↔_}
 use mathlib.Core.Bool.{Bool, true, false, not, false≢true, _&&_, _||_}
 use mathlib.Core.Option.{some}
 use Prim.Native.Nat.{ℕ, _+_, _≤_, _<_}
@@ -9,7 +9,7 @@ use native.Mathlib.Omega.{arith}
 use Rattle.meaning.specs.Theory.{World, Possible, stepAt, stateAt}
 use Rattle.meaning.specs.Rule.{Walk, Test, act, undo, next, prev, seq, alt, star, check, conv, always, fluent, neg, both, diamond}
 use Rattle.laws.specs.Bit.{on}
-use Rattle.meaning.specs.Leads.{Rel, Leads, Back, Holds, Step, AnyStep, Many, Here}
+use Rattle.meaning.specs.Leads.{Leads, Holds, Step, AnyStep, Many, Here}
 use Rattle.meaning.proofs.Chain.{Within}
 use Rattle.meaning.proofs.Bounds.{leads-within, back-within}
 use Rattle.meaning.proofs.Converse.{back-exchanged}

@@ -1,52 +1,24 @@
--- The word of the actions that a walk asks for at now from some position of a set, sign by sign; and whether the job is finished, from the set that it
--- reaches. Knows sets by the positions that they hold; no text and no code.
+-- The word of the actions that a walk asks for at now from some position of a set, sign by sign. Knows sets by the positions that they hold; no text and
+-- no code.
 use mathlib.Core.Path.{_≡_, refl, sym, subst, _∙_}
-use mathlib.Core.Logic.{_⊎_, inl, inr, ⊎-elim, _↔_}
-use mathlib.Core.Bool.{true, false, cond, _&&_}
+use mathlib.Core.Logic.{_⊎_, inl, inr, ⊎-elim}
+use mathlib.Core.Bool.{true, false, cond}
 use Prim.Native.Nat.{ℕ, _-_, _^_, _<_}
-use native.Mathlib.Omega.{arith}
 use lib.Bits.{bitOr}
-use lib.Dec.{eqb, ltb}
+use lib.Dec.{eqb}
 use borrow.Author.Tests.{eqb-true, eq-eqb, lt-ltb}
 use Rattle.laws.specs.Bit.{on}
-use Rattle.laws.proofs.Truth.{off-on, true-or-false, and-iff, or-iff}
+use Rattle.laws.proofs.Truth.{off-on, true-or-false, or-iff}
 use Rattle.laws.proofs.On.{on-none}
 use Rattle.laws.proofs.Bitwise.{on-or}
 use Rattle.laws.proofs.Shift.{on-ones}
-use Rattle.meaning.specs.Limits.{actionLimit, places}
+use Rattle.meaning.specs.Limits.{actionLimit}
 use Rattle.meaning.specs.Theory.{World}
 use Rattle.meaning.specs.Rule.{Walk, Test, act, undo, next, prev, seq, alt, star, check, conv}
 use Rattle.meaning.specs.Leads.{Leads}
 use Rattle.meaning.specs.Asks.{Asks}
 use Rattle.ask.specs.Asked.{AskedBy}
-use Rattle.ask.specs.Image.{Set, UpTo, Image}
-
--- from position 0 alone
-abbrev pub FromStart : Set → Type 0
-FromStart from = (q : ℕ) → from q ≡ (eqb 0 q && ltb q places)
-
-start-only : {from : Set} → FromStart from → (q : ℕ) → from q ≡ true → 0 ≡ q
-start-only start q h = eqb-true 0 q (and-iff _ _ .0 (sym (start q) ∙ h) .0)
-
-pub start-up-to : {from : Set} (n : ℕ) → FromStart from → UpTo n from
-start-up-to n start q h = let e = start-only start q h in omega arith
-
--- the job is finished where the set that it reaches from 0 holds now
-pub ended-iff : (w : World) (x : Walk) (n : ℕ) (from reached : Set) → FromStart from → Image (Leads w x) n from reached → (reached n ≡ true) ↔ Leads w x 0 n n
-ended-iff w x n from reached start image = (
-  λ h. let u = image .each n .0 h in
-      subst (λ (p : ℕ). Leads w x p n n) (sym (start-only start (u .0) (u .1))) (u .2),
-  λ h. image .each n .1 (0, start 0, h),
-)
-
--- what is asked for from 0 alone
-pub front-asked : (w : World) (x : Walk) (n : ℕ) (from : Set) (asked : ℕ) → FromStart from → AskedBy w x n from asked
-    → (a : ℕ) → a < actionLimit → (on asked a ≡ true) ↔ Asks w x 0 n a
-front-asked w x n from asked start f a h = (
-  λ e. let u = f a h .0 e in
-      subst (λ (p : ℕ). Asks w x p n a) (sym (start-only start (u .0) (u .1))) (u .2),
-  λ k. f a h .1 (0, start 0, k),
-)
+use Rattle.ask.specs.Image.{Set, Image}
 
 -- a word with no bit on
 none-asked : (w : World) (x : Walk) (n : ℕ) (from : Set) → ((p a : ℕ) → from p ≡ true → Asks w x p n a → ⊥) → AskedBy w x n from 0

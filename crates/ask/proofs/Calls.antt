@@ -1,16 +1,23 @@
 -- The evaluator's calls over the text: from a rule that stands at a place, and its sign, the parts that stand behind it, each further on. Knows the table of
 -- ends; no set and no world.
-use mathlib.Core.Path.{_≡_, refl, sym, subst}
+use mathlib.Core.Path.{_≡_, refl, subst}
 use mathlib.Core.List.{List}
 use Prim.Native.Nat.{ℕ, _+_, _≤_, _<_}
 use native.Mathlib.Omega.{arith}
 use native.Mathlib.Decide.{decLt}
 use lib.ListN.{length, getD, List·getD-eq-default}
 use Rattle.meaning.specs.Rule.{Walk, Test, Rule, ofWalk, ofTest, text}
-use Rattle.rule.specs.Standing.{Stands, Numbered, Ends, Leaf}
-use Rattle.ask.specs.Found.{WalkHere, TestHere, LeafHere}
-use Rattle.rule.proofs.Spread.{Spread, spread, within}
+use Rattle.meaning.specs.Limits.{textLimit}
+use Rattle.rule.specs.Ends.{FillOutcome}
+use Rattle.rule.specs.Standing.{Stands, Ends, Leaf}
+use Rattle.ask.specs.Found.{WalkHere, TestHere, LeafHere, Numbered, noEnds}
+use Rattle.rule.proofs.Widths.{ends-told}
+use Rattle.rule.proofs.Spread.{Spread, spread}
 use Rattle.rule.proofs.Spread.{act-at, undo-at, next-at, prev-at, seq-at, alt-at, star-at, check-at, conv-at, always-at, fluent-at, neg-at, both-at, diamond-at}
+
+-- a table that was empty, filled for a text of a rule's length, is the text's
+pub ends-marked : {bytes before after : List ℕ} → length bytes ≤ textLimit → before ≡ noEnds → FillOutcome bytes before after → Ends bytes after
+ends-marked {bytes} {before} {after} short empty o = ends-told bytes after short (subst (λ (l : List ℕ). FillOutcome bytes l after) empty o)
 
 -- Behind a first part that stands at a place, the table has a further place: there stands what stands behind the part.
 module _ {bytes ends : List ℕ} (marked : Ends bytes ends) {i : ℕ} {x : Rule} (first : Stands bytes i x) where

@@ -1,7 +1,7 @@
 -- The image of a set of positions under each sign of a walk, and the positions of a set that each sign of a test keeps: the mathematics of the evaluator's
 -- arms. Knows relations, and sets by the positions that they hold; no walk, no text and no word.
 use mathlib.Core.Path.{_≡_, refl, sym, subst, _∙_}
-use mathlib.Core.Logic.{_↔_, _⊎_, inl, inr, ⊎-elim}
+use mathlib.Core.Logic.{_↔_, _⊎_, inl, inr, ⊎-elim, Iff·trans}
 use mathlib.Core.Bool.{Bool, true, false, not, _&&_, _||_}
 use Prim.Native.Nat.{ℕ, _≤_}
 use borrow.Author.Tests.{not-true}
@@ -28,6 +28,10 @@ image-same e i = record {
     λ h. i .each q .1 (h .0, h .1, e (h .0) q .1 (h .2)),
   );
 }
+
+-- the same answer, said otherwise
+pub image-held : {r : Rel} {n : ℕ} {s a b : Set} → ((q : ℕ) → (b q ≡ true) ↔ (a q ≡ true)) → Image r n s a → Image r n s b
+image-held e i = record { each = λ q. Iff·trans (e q) (i .each q) }
 
 -- `;VW`
 pub then-image : {r t : Rel} {n : ℕ} {s a b : Set} → Image r n s a → Image t n a b → Image (Then r t) n s b

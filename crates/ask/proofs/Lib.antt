@@ -9,4 +9,6 @@ pub mod Asking
 pub mod Answering
 pub mod Asked
 pub mod Signs
+pub mod Jobs
 pub mod Determined
+pub mod Consequences

@@ -1,34 +1,31 @@
 -- The evaluator's two loops, over position sets: what a round of a star adds and why it ends, and what one position of a test's set takes away. Knows sets
 -- by the positions that they hold.
-use mathlib.Core.Path.{_≡_, refl, sym, subst, _∙_}
-use mathlib.Core.Logic.{_↔_, inl, inr}
-use mathlib.Core.Bool.{Bool, true, false, not, _&&_, _||_}
+use mathlib.Core.Path.{_≡_, sym, subst, _∙_}
+use mathlib.Core.Logic.{_↔_, inl}
+use mathlib.Core.Bool.{true, not, _&&_, _||_}
 use Prim.Native.Nat.{ℕ, _-_, _≤_, _<_}
 use native.Mathlib.Omega.{arith}
 use lib.Dec.{eqb, ltb}
 use borrow.Author.Tests.{eqb-true, eq-eqb, lt-ltb}
 use Rattle.laws.proofs.Truth.{off-on, and-iff, or-iff}
 use Rattle.laws.proofs.First.{first-le}
-use Rattle.laws.specs.Bit.{on}
 use Rattle.meaning.specs.Limits.{places}
 use Rattle.meaning.specs.Reach.{countOf, earliestOf}
 use Rattle.positions.specs.declared.PositionSet.{PositionSet}
-use Rattle.positions.specs.Positions.{holds, wordOf, Empty, Inside}
-use Rattle.positions.proofs.Held.{held-place, earliest-none, earliest-found, grows, falls}
+use Rattle.positions.specs.Positions.{holds, Empty, Inside}
+use Rattle.positions.proofs.Held.{earliest-none, earliest-found, grows, falls}
 use Rattle.ask.proofs.Image.{rest-iff}
 
 -- a round that adds something leaves fewer places
-pub round-falls : (held more joined : PositionSet) → (Inside more held → ⊥) → ((q : ℕ) → holds joined q ≡ (holds held q || holds more q))
-    → places - countOf (wordOf joined) < places - countOf (wordOf held)
-round-falls held more joined new join =
-    falls held joined (λ q h. join q ∙ or-iff (holds held q) (holds more q) .1 (inl h))
-    (λ k. new (λ q h. k q (join q ∙ or-iff (holds held q) (holds more q) .1 (inr h))))
+pub round-falls : (held more all : PositionSet) → ((q : ℕ) → holds all q ≡ (holds held q || holds more q)) → (Inside all held → ⊥)
+    → places - countOf (holds all) < places - countOf (holds held)
+round-falls held more all join new = falls held all (λ q h. join q ∙ or-iff (holds held q) (holds more q) .1 (inl h)) new
 
 -- the earliest position of a set that is not empty is held
-pub earliest-there : (left : PositionSet) (p : ℕ) → (Empty left → ⊥) → p ≡ earliestOf (wordOf left) → holds left p ≡ true
+pub earliest-there : (left : PositionSet) (p : ℕ) → (Empty left → ⊥) → p ≡ earliestOf (holds left) → holds left p ≡ true
 earliest-there left p some e =
-    let low : earliestOf (wordOf left) ≤ places = first-le places (on (wordOf left)) in
-    let not-past : earliestOf (wordOf left) ≡ places → ⊥ = λ k. some (earliest-none left .0 k) in
+    let low : earliestOf (holds left) ≤ places = first-le places (holds left) in
+    let not-past : earliestOf (holds left) ≡ places → ⊥ = λ k. some (earliest-none left .0 k) in
     subst (λ (i : ℕ). holds left i ≡ true) (sym e) (earliest-found left (omega arith))
 
 -- the set of one position holds it alone
@@ -40,7 +37,7 @@ one-there p one room at q = (
 
 -- without it fewer are left
 pub left-falls : (left one rest : PositionSet) (p : ℕ) → holds left p ≡ true → holds one p ≡ true → ((q : ℕ) → holds rest q ≡ (holds left q && not (holds one q)))
-    → countOf (wordOf rest) < countOf (wordOf left)
+    → countOf (holds rest) < countOf (holds left)
 left-falls left one rest p there alone without =
     grows rest left (λ q h. rest-iff (holds left q) (holds one q) .0 (sym (without q) ∙ h) .0)
     (λ k. off-on (rest-iff (holds left p) (holds one p) .0 (sym (without p) ∙ k p there) .1) alone)

@@ -11,10 +11,10 @@ use Rattle.meaning.specs.Theory.{World}
 use Rattle.meaning.specs.Rule.{Walk, ofWalk}
 use Rattle.meaning.specs.Leads.{Leads}
 use Rattle.meaning.specs.Asks.{Asks}
-use Rattle.theory.specs.World.{Readable, worldOf}
+use Rattle.theory.specs.Subject.{Subject, Readable, worldOf}
 use Rattle.rule.specs.Standing.{Stands}
 use Rattle.ask.specs.Image.{Set, UpTo}
-use Rattle.ask.specs.Found.{Told, WalkHere}
+use Rattle.ask.specs.Found.{Tabled, WalkHere}
 
 -- the log can be gone over by this table of masks, and a walk stands at the front of the job's text
 pub record JobHere (masks log job ends : List ℕ) : Type 0 where
@@ -22,19 +22,17 @@ pub record JobHere (masks log job ends : List ℕ) : Type 0 where
   pub stands : WalkHere job ends 0
 
 -- the job leads from 0 to the log's end
-pub record EndTold (start : ℕ) (masks log job : List ℕ) (answer : Bool) : Type 0 where
-  pub each : (fluents actions : ℕ) (x : Walk) → Stands job 0 (ofWalk x)
-      → (answer ≡ true) ↔ Leads (worldOf fluents actions start masks log) x 0 (length log) (length log)
+pub record EndTold (s : Subject) (job : List ℕ) (answer : Bool) : Type 0 where
+  pub each : (x : Walk) → Stands job 0 (ofWalk x) → (answer ≡ true) ↔ Leads (worldOf s) x 0 (length (s .log)) (length (s .log))
 
 -- the actions that the job asks for at the log's end, bit a for action a
-pub record AskTold (start : ℕ) (masks log job : List ℕ) (asked : ℕ) : Type 0 where
-  pub each : (fluents actions : ℕ) (x : Walk) → Stands job 0 (ofWalk x)
-      → (a : ℕ) → a < actionLimit → (on asked a ≡ true) ↔ Asks (worldOf fluents actions start masks log) x 0 (length log) a
+pub record AskTold (s : Subject) (job : List ℕ) (asked : ℕ) : Type 0 where
+  pub each : (x : Walk) → Stands job 0 (ofWalk x) → (a : ℕ) → a < actionLimit → (on asked a ≡ true) ↔ Asks (worldOf s) x 0 (length (s .log)) a
 
 -- the actions that a walk asks for at now = n, from some position of a set
 abbrev pub AskedBy : World → Walk → ℕ → Set → ℕ → Type 0
 AskedBy w x n from asked = (a : ℕ) → a < actionLimit → (on asked a ≡ true) ↔ ((p : ℕ) × (from p ≡ true) × Asks w x p n a)
 
 -- the same of the walk at a place of the text
-pub record AskFound (text : List ℕ) (at : ℕ) (done lit : List ℕ) (now : ℕ) (from : Set) (asked : ℕ) : Type 0 where
-  pub found : (w : World) → Told w done lit now → UpTo now from → (x : Walk) → Stands text at (ofWalk x) → AskedBy w x now from asked
+pub record AskFound (text : List ℕ) (at : ℕ) (rows : List ℕ) (now : ℕ) (from : Set) (asked : ℕ) : Type 0 where
+  pub found : (w : World) → Tabled w rows now → UpTo now from → (x : Walk) → Stands text at (ofWalk x) → AskedBy w x now from asked

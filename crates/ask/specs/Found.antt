@@ -1,14 +1,17 @@
--- What the evaluator's functions ask of a place of the text, and what they answer. An answer is right for every world that the tables describe and every
+-- What the evaluator's functions ask of a place of the text, and what they answer. An answer is right for every world that the rows describe and every
 -- rule that stands at the place.
 use mathlib.Core.Bool.{Bool}
 use mathlib.Core.List.{List}
-use Prim.Native.Nat.{ℕ, _≤_}
-use lib.ListN.{length}
-use Rattle.meaning.specs.Limits.{logLimit}
+use Prim.Native.Nat.{ℕ, _+_, _≤_}
+use lib.ListN.{length, replicate}
+use Rattle.meaning.specs.Limits.{logLimit, textLimit}
 use Rattle.meaning.specs.Theory.{World}
 use Rattle.meaning.specs.Rule.{Walk, Test, ofWalk, ofTest}
 use Rattle.meaning.specs.Leads.{Holds, Here, Many}
+use Rattle.theory.specs.Subject.{Subject, worldOf}
 use Rattle.theory.specs.Tables.{Describes}
+use Rattle.spelling.specs.declared.Digits.the-variants.{Number}
+use Rattle.spelling.specs.Scan.{NumberAt}
 use Rattle.ask.specs.Image.{Set, UpTo, Image, Sifted, Way}
 use Rattle.rule.specs.Standing.{Stands, Ends, Leaf}
 
@@ -28,38 +31,46 @@ pub record LeafHere (bytes : List ℕ) (at : ℕ) : Type 0 where
   pub stands : Stands bytes at (ofWalk walk)
   pub leaf : Leaf walk
 
--- the tables are this world's, its log is no longer than a log may be, and now is not past it
-pub record Told (w : World) (done lit : List ℕ) (now : ℕ) : Type 0 where
-  pub described : Describes w done lit
+-- the two digits of some number stand at the place
+pub record Numbered (bytes : List ℕ) (at : ℕ) : Type 0 where
+  pub number : ℕ
+  pub digits : NumberAt bytes at (Number number)
+
+-- the rows are this world's, its log is no longer than a log may be, and now is not past it
+pub record Tabled (w : World) (rows : List ℕ) (now : ℕ) : Type 0 where
+  pub described : Describes w rows
   pub logged : now ≤ length (w .log)
   pub room : length (w .log) ≤ logLimit
 
--- the positions that the walk there, or its converse, leads to from some position of the set; the same of a walk with no part
-pub record WalkFound (bytes : List ℕ) (at : ℕ) (back : Bool) (done lit : List ℕ) (now : ℕ) (from answer : Set) : Type 0 where
-  pub found :
-      (w : World) → Told w done lit now → UpTo now from → (x : Walk) → Stands bytes at (ofWalk x) → Image (Way w x back) now from answer
+-- a table of ends with nothing in it
+abbrev pub noEnds : List ℕ
+noEnds = replicate (textLimit + 1) 0
 
-pub record LeafFound (bytes : List ℕ) (at : ℕ) (back : Bool) (done : List ℕ) (now : ℕ) (from answer : Set) : Type 0 where
+-- what the evaluator reads of a question: where each rule of the text ends, and the rows of the log
+pub record LaidOut (s : Subject) (bytes ends rows : List ℕ) : Type 0 where
+  pub marked : Ends bytes ends
+  pub described : Describes (worldOf s) rows
+
+-- the positions that the walk there, or its converse, leads to from some position of the set; the same of a walk with no part
+pub record WalkFound (bytes : List ℕ) (at : ℕ) (back : Bool) (rows : List ℕ) (now : ℕ) (from answer : Set) : Type 0 where
   pub found :
-      (w : World) (lit : List ℕ)
-      → Told w done lit now
-      → UpTo now from
-      → (x : Walk)
-      → Leaf x
-      → Stands bytes at (ofWalk x)
-      → Image (Way w x back) now from answer
+      (w : World) → Tabled w rows now → UpTo now from → (x : Walk) → Stands bytes at (ofWalk x) → Image (Way w x back) now from answer
+
+pub record LeafFound (bytes : List ℕ) (at : ℕ) (back : Bool) (rows : List ℕ) (now : ℕ) (from answer : Set) : Type 0 where
+  pub found :
+      (w : World) → Tabled w rows now → UpTo now from → (x : Walk) → Leaf x → Stands bytes at (ofWalk x) → Image (Way w x back) now from answer
 
 -- the same by chains of that walk
-pub record ChainFound (bytes : List ℕ) (at : ℕ) (back : Bool) (done lit : List ℕ) (now : ℕ) (from answer : Set) : Type 0 where
+pub record ChainFound (bytes : List ℕ) (at : ℕ) (back : Bool) (rows : List ℕ) (now : ℕ) (from answer : Set) : Type 0 where
   pub found :
-      (w : World) → Told w done lit now → UpTo now from → (x : Walk) → Stands bytes at (ofWalk x) → Image (Many (Way w x back)) now from answer
+      (w : World) → Tabled w rows now → UpTo now from → (x : Walk) → Stands bytes at (ofWalk x) → Image (Many (Way w x back)) now from answer
 
 -- the positions of the set where the test there is true
-pub record TestFound (bytes : List ℕ) (at : ℕ) (done lit : List ℕ) (now : ℕ) (among answer : Set) : Type 0 where
+pub record TestFound (bytes : List ℕ) (at : ℕ) (rows : List ℕ) (now : ℕ) (among answer : Set) : Type 0 where
   pub found :
-      (w : World) → Told w done lit now → UpTo now among → (x : Test) → Stands bytes at (ofTest x) → Sifted (Holds w x) now among answer
+      (w : World) → Tabled w rows now → UpTo now among → (x : Test) → Stands bytes at (ofTest x) → Sifted (Holds w x) now among answer
 
 -- the same of a test inside a walk
-pub record HereFound (bytes : List ℕ) (at : ℕ) (done lit : List ℕ) (now : ℕ) (among answer : Set) : Type 0 where
+pub record HereFound (bytes : List ℕ) (at : ℕ) (rows : List ℕ) (now : ℕ) (among answer : Set) : Type 0 where
   pub found :
-      (w : World) → Told w done lit now → UpTo now among → (x : Test) → Stands bytes at (ofTest x) → Image (Here w (Holds w x)) now among answer
+      (w : World) → Tabled w rows now → UpTo now among → (x : Test) → Stands bytes at (ofTest x) → Image (Here w (Holds w x)) now among answer

@@ -1,5 +1,6 @@
 pub mod Image
 pub mod Found
 pub mod Rows
-pub mod Answer
+pub mod Reach
+pub mod Verdict
 pub mod Asked

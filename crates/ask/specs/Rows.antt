@@ -5,12 +5,12 @@ use mathlib.Core.List.{List, [], _∷_, _++_}
 use Prim.Native.Nat.{ℕ}
 use Rattle.meaning.specs.Rule.{Kind}
 use Rattle.meaning.specs.Refusal.{Row, _when_, BadTimes}
+use Rattle.theory.specs.Subject.{Subject, countsOf}
 use Rattle.theory.specs.Rows.{worldRows}
 use Rattle.rule.specs.Outcome.{textRows}
 
-abbrev pub timeRows : ℕ → ℕ → List ℕ → List {1} Row
-timeRows then now log = (10 when BadTimes then now log) ∷ []
+abbrev pub timeRows : Subject → ℕ → ℕ → List {1} Row
+timeRows s then now = (10 when BadTimes then now (s .log)) ∷ []
 
-abbrev pub askRows : Kind → ℕ → ℕ → ℕ → List ℕ → List ℕ → List ℕ → ℕ → ℕ → List {1} Row
-askRows kind fluents actions start masks log bytes then now =
-    worldRows fluents actions start masks log ++ (textRows true kind bytes fluents actions ++ timeRows then now log)
+abbrev pub askRows : Kind → Subject → List ℕ → ℕ → ℕ → List {1} Row
+askRows kind s bytes then now = worldRows s ++ (textRows true kind bytes (countsOf s) ++ timeRows s then now)

@@ -13,7 +13,7 @@ use crate::step;
 use positions::PositionSet;
 use rule::ends::ENDS_ROOM;
 use theory::ACTION_LIMIT;
-use theory::FLUENT_LIMIT;
+use theory::tables::ROWS;
 
 // Action a alone; none, where it is past the last.
 fn one(a: usize) -> u64
@@ -36,37 +36,36 @@ pub(crate) fn asks(
     at: usize,
     from: PositionSet,
     end: usize,
-    done: &[u64; ACTION_LIMIT],
-    lit: &[u64; FLUENT_LIMIT],
+    rows: &[u64; ROWS],
 ) -> u64
     requires { ⌜ WalkHere (now text) (now ends) at ⌝ }
-    ensures { λ r. ⌜ AskFound (now (text .entry)) at (now (done .entry)) (now (lit .entry)) end (holds from) r ⌝ }
+    ensures { λ r. ⌜ AskFound (now (text .entry)) at (now (rows .entry)) end (holds from) r ⌝ }
 {
     let sign = text[at];
     let part = at + 1;
     match sign {
         b'a' => {
-            let a = step::named(text, at);
+            let a = step::named(text, part);
             let these = one(a);
             waits(from, end, these)
         }
         b'n' => waits(from, end, !0),
         b';' => {
             let other = evaluator::second(ends, at);
-            let middle = evaluator::walk(text, ends, part, from, end, false, done, lit);
-            let first = asks(text, ends, part, from, end, done, lit);
-            let then = asks(text, ends, other, middle, end, done, lit);
+            let middle = evaluator::walk(text, ends, part, from, end, false, rows);
+            let first = asks(text, ends, part, from, end, rows);
+            let then = asks(text, ends, other, middle, end, rows);
             first | then
         }
         b'|' => {
             let other = evaluator::second(ends, at);
-            let first = asks(text, ends, part, from, end, done, lit);
-            let or = asks(text, ends, other, from, end, done, lit);
+            let first = asks(text, ends, part, from, end, rows);
+            let or = asks(text, ends, other, from, end, rows);
             first | or
         }
         b'*' => {
-            let held = evaluator::walk(text, ends, at, from, end, false, done, lit);
-            asks(text, ends, part, held, end, done, lit)
+            let held = evaluator::walk(text, ends, at, from, end, false, rows);
+            asks(text, ends, part, held, end, rows)
         }
         _ => 0,
     }

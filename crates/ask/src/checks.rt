@@ -1,18 +1,17 @@
 // Which refusal a question is given: theory and log, then the rule, then the two times.
-use refusal::Refusal;
-use rule::Checked;
-use rule::Kind;
-use rule::check_rule;
-use theory::Check;
-use theory::faults::check_world;
+ghost use Rattle.theory.specs.Subject.{subjectOf};
 ghost use Rattle.theory.specs.Check.{Settled};
 ghost use Rattle.rule.specs.Outcome.{kindOf};
 ghost use Rattle.ask.specs.Rows.{askRows};
+use refusal::Refusal;
+use rule::Kind;
+use rule::check_rule;
+use theory::Check;
+use theory::Setting;
+use theory::faults::check_world;
 
 pub(crate) fn check(
-    fluents: usize,
-    actions: usize,
-    start: u32,
+    s: Setting,
     masks: &[u32],
     log: &[u8],
     rule: &[u8],
@@ -20,21 +19,24 @@ pub(crate) fn check(
     then: usize,
     now: usize,
 ) -> Check
-    ensures { λ r. ⌜ Settled (askRows (kindOf kind) fluents actions start (masks .entry .now) (log .entry .now) (rule .entry .now) then now) r ⌝ }
+    ensures { λ r. ⌜ Settled (askRows (kindOf kind) (subjectOf s (masks .entry .now) (log .entry .now)) (rule .entry .now) then now) r ⌝ }
 {
-    match check_world(fluents, actions, start, masks, log) {
+    match check_world(s, masks, log) {
         Check::Refused(r) => Check::Refused(r),
-        Check::Sound => match check_rule(rule, kind, fluents, actions) {
-            Checked::Refused(r) => Check::Refused(r),
-            Checked::Fits(_) => {
-                if now < then {
-                    return Check::Refused(Refusal::BadPosition);
+        Check::Sound => {
+            let counts = s.counts;
+            match check_rule(rule, kind, counts) {
+                Check::Refused(r) => Check::Refused(r),
+                Check::Sound => {
+                    if now < then {
+                        return Check::Refused(Refusal::BadPosition);
+                    }
+                    if log.len() < now {
+                        return Check::Refused(Refusal::BadPosition);
+                    }
+                    Check::Sound
                 }
-                if log.len() < now {
-                    return Check::Refused(Refusal::BadPosition);
-                }
-                Check::Sound
             }
-        },
+        }
     }
 }

@@ -1,37 +1,36 @@
 // A job over a log as it stands, for whoever looks for its end: whether it has come to it, and which actions it asks for next. The table of ends is
 // made once, since the job stays while the log grows.
+ghost use Rattle.theory.specs.Subject.{subjectOf};
 ghost use Rattle.ask.specs.Asked.{JobHere, EndTold, AskTold};
 use crate::asks::asks;
 use crate::evaluator;
 use positions::PositionSet;
 use rule::ends::ENDS_ROOM;
-use theory::ACTION_LIMIT;
-use theory::FLUENT_LIMIT;
+use theory::Setting;
+use theory::tables::ROWS;
 use theory::tables::transpose;
 
 // The job leads from 0 to the log's end.
-pub fn ended(start: u32, masks: &[u32], log: &[u8], job: &[u8], ends: &[u8; ENDS_ROOM]) -> bool
+pub fn ended(s: Setting, masks: &[u32], log: &[u8], job: &[u8], ends: &[u8; ENDS_ROOM]) -> bool
     requires { ⌜ JobHere (now masks) (now log) (now job) (now ends) ⌝ }
-    ensures { λ r. ⌜ EndTold start (now (masks .entry)) (now (log .entry)) (now (job .entry)) r ⌝ }
+    ensures { λ r. ⌜ EndTold (subjectOf s (now (masks .entry)) (now (log .entry))) (now (job .entry)) r ⌝ }
 {
-    let mut done = [0u64; ACTION_LIMIT];
-    let mut lit = [0u64; FLUENT_LIMIT];
-    transpose(masks, start, log, &mut done, &mut lit);
+    let mut rows = [0u64; ROWS];
+    transpose(s, masks, log, &mut rows);
     let end = log.len();
     let front = PositionSet::at(0);
-    let reached = evaluator::walk(job, ends, 0, front, end, false, &done, &lit);
+    let reached = evaluator::walk(job, ends, 0, front, end, false, &rows);
     reached.has(end)
 }
 
 // The actions that the job asks for at the log's end, bit a for action a.
-pub fn asked(start: u32, masks: &[u32], log: &[u8], job: &[u8], ends: &[u8; ENDS_ROOM]) -> u64
+pub fn asked(s: Setting, masks: &[u32], log: &[u8], job: &[u8], ends: &[u8; ENDS_ROOM]) -> u64
     requires { ⌜ JobHere (now masks) (now log) (now job) (now ends) ⌝ }
-    ensures { λ r. ⌜ AskTold start (now (masks .entry)) (now (log .entry)) (now (job .entry)) r ⌝ }
+    ensures { λ r. ⌜ AskTold (subjectOf s (now (masks .entry)) (now (log .entry))) (now (job .entry)) r ⌝ }
 {
-    let mut done = [0u64; ACTION_LIMIT];
-    let mut lit = [0u64; FLUENT_LIMIT];
-    transpose(masks, start, log, &mut done, &mut lit);
+    let mut rows = [0u64; ROWS];
+    transpose(s, masks, log, &mut rows);
     let end = log.len();
     let front = PositionSet::at(0);
-    asks(job, ends, 0, front, end, &done, &lit)
+    asks(job, ends, 0, front, end, &rows)
 }

@@ -1,23 +1,28 @@
 // Reach and verdict: a rule asked about a log. Knows the tables that the log was transposed into, and no state.
-ghost use Rattle.meaning.specs.Rule.{walkKind, testKind};
-ghost use Rattle.ask.specs.Answer.{ReachAnswered, VerdictAnswered};
+ghost use mathlib.Core.Option.{some};
+ghost use Rattle.meaning.specs.Rule.{testKind};
+ghost use Rattle.meaning.specs.Refusal.{Accepted};
+ghost use Rattle.theory.specs.Subject.{subjectOf};
+ghost use Rattle.ask.specs.Rows.{askRows};
+ghost use Rattle.ask.specs.Reach;
+ghost use Rattle.ask.specs.Verdict;
 
 mod asks; // asks.rt: the actions that a walk asks for next
 mod checks; // checks.rt: which refusal a question is given
 mod evaluator; // evaluator.rt: the walk function and the test function
 pub mod job; // job.rt: a job over a log as it stands
+mod layout; // layout.rt: what the evaluator reads of a question
 mod step; // step.rt: the signs with no part
 
 use checks::check;
+use layout::lay_out;
 use positions::PositionSet;
 use refusal::Refusal;
 use rule::Kind;
 use rule::ends::ENDS_ROOM;
-use rule::ends::fill_ends;
-use theory::ACTION_LIMIT;
 use theory::Check;
-use theory::FLUENT_LIMIT;
-use theory::tables::transpose;
+use theory::Setting;
+use theory::tables::ROWS;
 
 // What `reach` answers: the set of positions with bit q for position q, their count and the earliest.
 pub enum ReachAnswer {
@@ -38,28 +43,24 @@ pub enum VerdictAnswer {
 
 // The positions that a walk leads to from `then`, with this now.
 pub fn reach(
-    fluents: usize,
-    actions: usize,
-    start: u32,
+    s: Setting,
     masks: &[u32],
     log: &[u8],
     walk: &[u8],
     then: usize,
     now: usize,
 ) -> ReachAnswer
-    ensures { λ r. ⌜ ReachAnswered r fluents actions start (masks .entry .now) (log .entry .now) (walk .entry .now) then now ⌝ }
+    ensures { λ r. ⌜ Reach.ReachAnswered (subjectOf s (masks .entry .now) (log .entry .now)) (walk .entry .now) then now (Reach.numberGiven r) (Reach.setGiven r) (Reach.countGiven r) (Reach.earliestGiven r) ⌝ }
 {
     let kind = Kind::Walk;
-    match check(fluents, actions, start, masks, log, walk, kind, then, now) {
+    match check(s, masks, log, walk, kind, then, now) {
         Check::Refused(r) => ReachAnswer::Refused(r),
         Check::Sound => {
             let mut ends = [0u8; ENDS_ROOM];
-            fill_ends(walk, &mut ends);
-            let mut done = [0u64; ACTION_LIMIT];
-            let mut lit = [0u64; FLUENT_LIMIT];
-            transpose(masks, start, log, &mut done, &mut lit);
+            let mut rows = [0u64; ROWS];
+            lay_out(s, masks, log, walk, &mut ends, &mut rows);
             let from = PositionSet::at(then);
-            let found = evaluator::walk(walk, &ends, 0, from, now, false, &done, &lit);
+            let found = evaluator::walk(walk, &ends, 0, from, now, false, &rows);
             let set = found.word();
             let count = found.count();
             let earliest = found.earliest();
@@ -72,31 +73,35 @@ pub fn reach(
     }
 }
 
+// Whether a test is true at `then`, with this now, once every check is passed: for whoever has passed them.
+pub fn judged(s: Setting, masks: &[u32], log: &[u8], test: &[u8], then: usize, now: usize) -> bool
+    requires { ⌜ Accepted (askRows testKind (subjectOf s (masks .now) (log .now)) (test .now) then now) ⌝ }
+    ensures { λ r. ⌜ Verdict.TestJudged (subjectOf s (masks .entry .now) (log .entry .now)) (test .entry .now) then now (some r) ⌝ }
+{
+    let mut ends = [0u8; ENDS_ROOM];
+    let mut rows = [0u64; ROWS];
+    lay_out(s, masks, log, test, &mut ends, &mut rows);
+    let among = PositionSet::at(then);
+    let kept = evaluator::test(test, &ends, 0, among, now, &rows);
+    kept.has(then)
+}
+
 // Whether a test is true at `then`, with this now.
 pub fn verdict(
-    fluents: usize,
-    actions: usize,
-    start: u32,
+    s: Setting,
     masks: &[u32],
     log: &[u8],
     test: &[u8],
     then: usize,
     now: usize,
 ) -> VerdictAnswer
-    ensures { λ r. ⌜ VerdictAnswered r fluents actions start (masks .entry .now) (log .entry .now) (test .entry .now) then now ⌝ }
+    ensures { λ r. ⌜ Verdict.VerdictAnswered (subjectOf s (masks .entry .now) (log .entry .now)) (test .entry .now) then now (Verdict.numberGiven r) (Verdict.verdictGiven r) ⌝ }
 {
     let kind = Kind::Test;
-    match check(fluents, actions, start, masks, log, test, kind, then, now) {
+    match check(s, masks, log, test, kind, then, now) {
         Check::Refused(r) => VerdictAnswer::Refused(r),
         Check::Sound => {
-            let mut ends = [0u8; ENDS_ROOM];
-            fill_ends(test, &mut ends);
-            let mut done = [0u64; ACTION_LIMIT];
-            let mut lit = [0u64; FLUENT_LIMIT];
-            transpose(masks, start, log, &mut done, &mut lit);
-            let among = PositionSet::at(then);
-            let kept = evaluator::test(test, &ends, 0, among, now, &done, &lit);
-            if kept.has(then) {
+            if judged(s, masks, log, test, then, now) {
                 return VerdictAnswer::Yes;
             }
             VerdictAnswer::No

@@ -1,17 +1,19 @@
 // The signs with no part: one step of the log, up or down, and the row of a table that a sign names. Knows no other sign.
-use positions::PositionSet;
-use theory::ACTION_LIMIT;
 ghost use mathlib.Core.Path.{_≡_};
 ghost use mathlib.Core.Bool.{_&&_};
-ghost use Prim.Native.Nat.{ℕ, _+_, _<_};
+ghost use Prim.Native.Nat.{ℕ, _+_, _≤_, _<_};
 ghost use lib.Dec.{ltb, leb};
-ghost use lib.ListN.{getD};
-ghost use Rattle.laws.specs.Bit.{on};
 ghost use Rattle.meaning.specs.Limits.{places};
 ghost use Rattle.positions.specs.Positions.{holds};
+ghost use Rattle.theory.specs.Tables.{rowCount, amongHolds};
+ghost use Rattle.spelling.specs.declared.Digits.the-variants.{Number};
+ghost use Rattle.spelling.specs.Scan.{NumberAt};
 ghost use Rattle.ask.specs.Image.{UpTo, Image, Turn, Crossing};
-ghost use Rattle.rule.specs.Standing.{NumberAt, Numbered};
-ghost use Rattle.ask.specs.Found.{LeafHere, LeafFound};
+ghost use Rattle.ask.specs.Found.{Numbered, LeafHere, LeafFound};
+use positions::PositionSet;
+use theory::ACTION_LIMIT;
+use theory::tables::ACTION_ROWS;
+use theory::tables::ROWS;
 
 pub(crate) fn wide(b: u8) -> usize
     ensures { λ r. ⌜ (r ≡ b) × (r < 256) ⌝ }
@@ -19,28 +21,34 @@ pub(crate) fn wide(b: u8) -> usize
     b as usize
 }
 
-// The number behind the sign at a place.
+// The number at a place where one stands. It is read at every visit of a sign, so it is not looked for again whether its bytes are digits.
 pub(crate) fn named(text: &[u8], at: usize) -> usize
-    requires { ⌜ Numbered (text .now) (at + 1) ⌝ }
-    ensures { λ r. ⌜ ((n : ℕ) → NumberAt (text .entry .now) (at + 1) n → r ≡ n) ⌝ }
+    requires { ⌜ Numbered (now text) at ⌝ }
+    ensures { λ r. ⌜ ((n : ℕ) → NumberAt (now (text .entry)) at (Number n) → r ≡ n) ⌝ }
 {
-    let first = at + 1;
-    let second = first + 1;
-    let tens = wide(text[first]);
+    let second = at + 1;
+    let tens = wide(text[at]);
     let ones = wide(text[second]);
     (tens - 48) * 10 + (ones - 48)
 }
 
-// The row of a table that the sign at a place names; a row that the table lacks is empty.
-pub(crate) fn row(text: &[u8], at: usize, table: &[u64]) -> PositionSet
-    requires { ⌜ Numbered (text .now) (at + 1) ⌝ }
-    ensures { λ r. ⌜ ((n q : ℕ) → NumberAt (text .entry .now) (at + 1) n → holds r q ≡ (ltb q places && on (getD (table .entry .now) n 0) q)) ⌝ }
+// The row that the number at a place names, among so many from a first one on; none, where there is no such row.
+pub(crate) fn row(
+    text: &[u8],
+    at: usize,
+    rows: &[u64; ROWS],
+    first: usize,
+    many: usize,
+) -> PositionSet
+    requires { ⌜ Numbered (now text) at × (first + many ≤ rowCount) ⌝ }
+    ensures { λ r. ⌜ ((n q : ℕ) → NumberAt (now (text .entry)) at (Number n) → holds r q ≡ amongHolds (now (rows .entry)) first many n q) ⌝ }
 {
-    let i = named(text, at);
-    if i < table.len() {
-        PositionSet::of_word(table[i])
+    let n = named(text, at);
+    if n < many {
+        let r = first + n;
+        PositionSet::of_word(rows[r])
     } else {
-        PositionSet::of_word(0)
+        PositionSet::EMPTY
     }
 }
 
@@ -73,19 +81,20 @@ pub(crate) fn leaf(
     from: PositionSet,
     now: usize,
     back: bool,
-    done: &[u64; ACTION_LIMIT],
+    rows: &[u64; ROWS],
 ) -> PositionSet
     requires { ⌜ LeafHere (text .now) at ⌝ }
-    ensures { λ r. ⌜ LeafFound (text .entry .now) at back (done .entry .now) now (holds from) (holds r) ⌝ }
+    ensures { λ r. ⌜ LeafFound (text .entry .now) at back (rows .entry .now) now (holds from) (holds r) ⌝ }
 {
     let sign = text[at];
+    let name = at + 1;
     match sign {
         b'a' => {
-            let over = row(text, at, done);
+            let over = row(text, name, rows, ACTION_ROWS, ACTION_LIMIT);
             cross(from, over, now, back)
         }
         b'r' => {
-            let over = row(text, at, done);
+            let over = row(text, name, rows, ACTION_ROWS, ACTION_LIMIT);
             cross(from, over, now, !back)
         }
         b'n' => {

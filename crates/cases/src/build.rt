@@ -1,5 +1,5 @@
 // What a row gives: its sheet, from the table's first lines and the row's own, and its answer. What goes beyond the lent room is left out.
-ghost use Prim.Native.Nat.{_≤_, _<_, _+_};
+ghost use Prim.Native.Nat.{_≤_, _<_};
 ghost use lib.ListN.{length};
 ghost use Rattle.io.specs.Counts.{Counts};
 use crate::lines::behind_mark;

@@ -16,7 +16,7 @@ use Rattle.laws.proofs.Bitwise.{on-or}
 use Rattle.laws.proofs.Shift.{on-one-shl}
 use Rattle.meaning.specs.Limits.{actionLimit}
 use Rattle.meaning.specs.Theory.{Possible}
-use Rattle.theory.specs.World.{tableMasks}
+use Rattle.theory.specs.Subject.{tableMasks}
 use Rattle.finish.specs.Found.{Doable}
 
 module _ (masks : List ℕ) (state : ℕ) where

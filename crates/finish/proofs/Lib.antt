@@ -6,4 +6,4 @@ pub mod Trail
 pub mod Shorter
 pub mod Determined
 pub mod Seeking
-pub mod Checks
+pub mod Checking

@@ -1,14 +1,15 @@
 -- From the arguments of a checked call to the search, and from what it finds to the answer: the log copied to the trail, the sequence copied to the output.
 use mathlib.Core.Path.{_≡_, refl, sym, ap, subst, _∙_}
 use mathlib.Core.List.{List, _++_}
-use Prim.Native.Nat.{ℕ, _+_}
+use Prim.Native.Nat.{ℕ}
 use native.Mathlib.Omega.{arith}
 use lib.ListN.{length, take, drop, length-drop}
 use lib.Seq.{length-take-le, take-at, take-length}
 use Rattle.refusal.specs.declared.Refusal.{Refusal}
 use Rattle.meaning.specs.Limits.{places}
 use Rattle.meaning.specs.Finish.{First, None}
-use Rattle.theory.specs.World.{worldOf}
+use Rattle.theory.specs.Subject.{subjectOf, worldOf}
+use Rattle.theory.specs.declared.Setting.{Setting}
 use Rattle.rule.specs.Standing.{Ends}
 use Rattle.finish.specs.Sound.{Ready, Wanted}
 use Rattle.finish.specs.Found.{FinishTold, SoughtTold}
@@ -30,23 +31,23 @@ ready-first actions masks log job ends trail more room n w marked long whole sam
   fits = omega (arith, w .logged .short);
 }
 
-module _ (actions start : ℕ) (masks log job trail last : List ℕ) (n more : ℕ) (same : take n trail ≡ log) (before : List ℕ) where
+module _ (s : Setting) (masks log job trail last : List ℕ) (n more : ℕ) (same : take n trail ≡ log) (before : List ℕ) where
   -- "no such sequence": nothing is written
-  pub nothing-sought : FinishTold actions start masks job trail n more last Nothing
-      → SoughtTold actions start masks log job more before before (Refused Refusal.NoFinish)
+  pub nothing-sought : FinishTold s masks job trail n more last Nothing
+      → SoughtTold (subjectOf s masks log) job more before before (Refused Refusal.NoFinish)
   nothing-sought told = record {
-    each = λ fluents x j. (refl, subst (λ (l : List ℕ). None (worldOf fluents actions start masks l) x more) same (told .each fluents x j), refl);
+    each = λ x j. (refl, subst (λ (l : List ℕ). None (worldOf (subjectOf s masks l)) x more) same (told .each x j), refl);
   }
 
   -- what stands behind the log goes to the front of the output
   pub written-sought : (k : ℕ) (part after : List ℕ) → length last ≡ places → part ≡ take k (drop n last)
-      → after ≡ take (length part) part ++ drop (length part) before → FinishTold actions start masks job trail n more last (At k)
-      → SoughtTold actions start masks log job more before after (Written k)
+      → after ≡ take (length part) part ++ drop (length part) before → FinishTold s masks job trail n more last (At k)
+      → SoughtTold (subjectOf s masks log) job more before after (Written k)
   written-sought k part after long e put told = record {
-    each = λ fluents x j.
+    each = λ x j.
         record {
           ending = part;
-          first = rw e (subst (λ (l : List ℕ). First (worldOf fluents actions start masks l) x more (take k (drop n last))) same (told .each fluents x j));
+          first = rw e (subst (λ (l : List ℕ). First (worldOf (subjectOf s masks l)) x more (take k (drop n last))) same (told .each x j));
           counted = sym (ap length e ∙ length-take-le k (drop n last) (simp length-drop (omega (arith, told .fits .1))));
           written = rw take-length at put;
         };

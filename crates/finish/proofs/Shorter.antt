@@ -10,49 +10,50 @@ use lib.Seq.{length-take-le}
 use Rattle.meaning.specs.Limits.{logLimit}
 use Rattle.meaning.specs.Theory.{World}
 use Rattle.meaning.specs.Rule.{Walk}
-use Rattle.theory.specs.World.{worldOf}
+use Rattle.theory.specs.Subject.{subjectOf, worldOf}
+use Rattle.theory.specs.declared.Setting.{Setting}
 use Rattle.finish.specs.Search.{FirstOf, NoneOf}
 use Rattle.finish.specs.Sound.{JobIs, Node, Ready}
 use Rattle.finish.specs.Found.{LengthTold, FinishTold}
 use Rattle.finish.specs.declared.search.Found.the-variants.{At, Nothing}
 use Rattle.finish.proofs.Lengths.{first-of-all, none-of-all}
 
-module _ (actions start : ℕ) (masks job : List ℕ) where
-  abbrev Of : List ℕ → ℕ → World
-  Of log fluents = worldOf fluents actions start masks log
+module _ (s : Setting) (masks job : List ℕ) where
+  abbrev Of : List ℕ → World
+  Of log = worldOf (subjectOf s masks log)
 
   -- no sequence of fewer than k actions completes the job
   abbrev pub Fewer : List ℕ → ℕ → Type 0
-  Fewer log k = (fluents : ℕ) (x : Walk) → JobIs job x → (j : ℕ) → j < k → NoneOf j (Of log fluents) x
+  Fewer log k = (x : Walk) → JobIs job x → (j : ℕ) → j < k → NoneOf j (Of log) x
 
-  pub fewer-more : (trail now last : List ℕ) (n k : ℕ) → take n now ≡ take n trail → LengthTold actions start masks job now n k last false
+  pub fewer-more : (trail now last : List ℕ) (n k : ℕ) → take n now ≡ take n trail → LengthTold s masks job now n k last false
       → Fewer (take n trail) k → Fewer (take n trail) (k + 1)
-  fewer-more trail now last n k same told fewer fluents x i j h = elim (ℕ-discrete j k) [
-    | yes e ↦ subst (λ (m : ℕ). NoneOf m (Of (take n trail) fluents) x) (sym e)
-        (subst (λ (l : List ℕ). NoneOf k (Of l fluents) x) same (told .each fluents x i))
-    | no e ↦ fewer fluents x i j (omega arith)
+  fewer-more trail now last n k same told fewer x i j h = elim (ℕ-discrete j k) [
+    | yes e ↦ subst (λ (m : ℕ). NoneOf m (Of (take n trail)) x) (sym e)
+        (subst (λ (l : List ℕ). NoneOf k (Of l) x) same (told .each x i))
+    | no e ↦ fewer x i j (omega arith)
   ]
 
   -- one of k actions, and none of fewer
   pub at-told : (trail now last : List ℕ) (n more k : ℕ) → n ≤ length trail → k ≤ more → n + k ≤ logLimit → take n now ≡ take n trail
-      → Fewer (take n trail) k → LengthTold actions start masks job now n k last true → FinishTold actions start masks job trail n more last (At k)
+      → Fewer (take n trail) k → LengthTold s masks job now n k last true → FinishTold s masks job trail n more last (At k)
   at-told trail now last n more k room short fits same fewer told =
       let full : length (take n trail) ≡ n = length-take-le n trail room in
       record {
         fits = (short, fits);
-        each = λ fluents x i.
-            first-of-all (Of (take n trail) fluents) x more k (take k (drop n last)) short (omega arith) (fewer fluents x i)
-            (subst (λ (l : List ℕ). FirstOf k (Of l fluents) x (take k (drop n last))) same (told .each fluents x i));
+        each = λ x i.
+            first-of-all (Of (take n trail)) x more k (take k (drop n last)) short (omega arith) (fewer x i)
+            (subst (λ (l : List ℕ). FirstOf k (Of l) x (take k (drop n last))) same (told .each x i));
       }
 
   -- none of any length within the bounds
   pub nothing-told : (trail last : List ℕ) (n more k : ℕ) → n ≤ length trail → min more (logLimit - n) < k → Fewer (take n trail) k
-      → FinishTold actions start masks job trail n more last Nothing
+      → FinishTold s masks job trail n more last Nothing
   nothing-told trail last n more k room past fewer =
       let full : length (take n trail) ≡ n = length-take-le n trail room in
       record {
         fits = tt;
-        each = λ fluents x i. none-of-all (Of (take n trail) fluents) x more (λ j short fits. fewer fluents x i j (omega arith));
+        each = λ x i. none-of-all (Of (take n trail)) x more (λ j short fits. fewer x i j (omega arith));
       }
 
 -- what the search asks, at another length

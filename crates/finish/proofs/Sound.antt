@@ -7,7 +7,7 @@ use native.Mathlib.Omega.{arith}
 use lib.ListN.{length, length-append, List·getD-append}
 use lib.Seq.{getD-append-seam}
 use Rattle.meaning.specs.Limits.{logLimit}
-use Rattle.theory.specs.World.{Readable}
+use Rattle.theory.specs.Subject.{Readable}
 use Rattle.finish.specs.Sound.{Logged}
 
 pub readable : (actions : ℕ) (masks log : List ℕ) → Logged actions masks log → Readable masks log

@@ -14,12 +14,14 @@ use borrow.Author.Tests.{eq-eqb, ne-eqb}
 use Rattle.laws.specs.Bit.{on}
 use Rattle.meaning.specs.Theory.{World}
 use Rattle.meaning.specs.Rule.{Walk}
-use Rattle.theory.specs.World.{worldOf}
+use Rattle.theory.specs.Subject.{subjectOf, worldOf}
+use Rattle.theory.specs.declared.Setting.{Setting}
 use Rattle.finish.specs.Search.{Ended, FirstOf, NoneOf}
 use Rattle.finish.specs.Sound.{JobIs, Logged, Ready}
 use Rattle.ask.specs.Asked.{EndTold}
 use Rattle.finish.specs.Found.{NextTold, OneLength, LengthTold}
 use Rattle.finish.proofs.Sound.{logged-more}
+use Rattle.finish.proofs.LeftOut.{next-tries}
 use Rattle.finish.proofs.Lengths.{first-empty, none-empty, NoneAfter, none-after, first-more, none-more}
 
 -- the test of a bit in the code
@@ -35,41 +37,41 @@ bit-off asked a h = ne-eqb (asked / 2 ^ a % 2) 1 h
 grown-trail : (trail now : List ℕ) (n a : ℕ) → n < length now → take n now ≡ take n trail → take (n + 1) (set now n a) ≡ take n trail ++ a ∷ []
 grown-trail trail now n a room same = rw (add-one, take-suc-set, same)
 
-module _ (actions start : ℕ) (masks job : List ℕ) where
-  abbrev At : List ℕ → ℕ → World
-  At log fluents = worldOf fluents actions start masks log
+module _ (s : Setting) (masks job : List ℕ) where
+  abbrev At : List ℕ → World
+  At log = worldOf (subjectOf s masks log)
 
   -- no action below a has a rest of k actions that completes the job
   abbrev pub Passed : List ℕ → ℕ → ℕ → Type 0
-  Passed log k a = (fluents : ℕ) (x : Walk) → JobIs job x → (b : ℕ) → b < a → NoneAfter k (At log fluents) x b
+  Passed log k a = (x : Walk) → JobIs job x → (b : ℕ) → b < a → NoneAfter k (At log) x b
 
-  passed-more : (log : List ℕ) (k a fluents : ℕ) (x : Walk) → ((b : ℕ) → b < a → NoneAfter k (At log fluents) x b) → NoneAfter k (At log fluents) x a
-      → (b : ℕ) → b < a + 1 → NoneAfter k (At log fluents) x b
-  passed-more log k a fluents x less one b h = elim (ℕ-discrete b a) [
-    | yes e ↦ subst (λ (i : ℕ). NoneAfter k (At log fluents) x i) (sym e) one
+  passed-more : (log : List ℕ) (k a : ℕ) (x : Walk) → ((b : ℕ) → b < a → NoneAfter k (At log) x b) → NoneAfter k (At log) x a
+      → (b : ℕ) → b < a + 1 → NoneAfter k (At log) x b
+  passed-more log k a x less one b h = elim (ℕ-discrete b a) [
+    | yes e ↦ subst (λ (i : ℕ). NoneAfter k (At log) x i) (sym e) one
     | no e ↦ less b (omega arith)
   ]
 
   -- a sequence of no action
-  pub leaf-told : (trail : List ℕ) (n : ℕ) (answer : Bool) → EndTold start masks (take n trail) job answer
-      → LengthTold actions start masks job trail n 0 trail answer
-  leaf-told trail n answer told = record { kept = refl; each = λ fluents x j. go fluents x answer (told .each fluents actions x (j .there)) }
+  pub leaf-told : (trail : List ℕ) (n : ℕ) (answer : Bool) → EndTold (subjectOf s masks (take n trail)) job answer
+      → LengthTold s masks job trail n 0 trail answer
+  leaf-told trail n answer told = record { kept = refl; each = λ x j. go x answer (told .each x (j .there)) }
     where
-      go : (fluents : ℕ) (x : Walk) (b : Bool) → (b ≡ true) ↔ Ended (At (take n trail) fluents) x (take n trail) → OneLength b 0 (At (take n trail) fluents) x []
-      go fluents x true e = first-empty (At (take n trail) fluents) x (e .0 refl)
-      go fluents x false e = none-empty (At (take n trail) fluents) x (λ h. false≢true (e .1 h))
+      go : (x : Walk) (b : Bool) → (b ≡ true) ↔ Ended (At (take n trail)) x (take n trail) → OneLength b 0 (At (take n trail)) x []
+      go x true e = first-empty (At (take n trail)) x (e .0 refl)
+      go x false e = none-empty (At (take n trail)) x (λ h. false≢true (e .1 h))
 
   -- an action that is left out
-  pub passed-out : (log : List ℕ) (k a asked : ℕ) → NextTold actions start masks job log asked → on asked a ≡ false → Passed log k a → Passed log k (a + 1)
-  passed-out log k a asked told off passed fluents x j = passed-more log k a fluents x (passed fluents x j) (λ rest e. told .each fluents x j .leaves a off rest)
+  pub passed-out : (log : List ℕ) (k a asked : ℕ) → NextTold (subjectOf s masks log) job asked → on asked a ≡ false → Passed log k a → Passed log k (a + 1)
+  passed-out log k a asked told off passed x j = passed-more log k a x (passed x j) (λ rest e. next-tries (At log) x asked (j .onward) (told .each x j) .leaves a off rest)
 
   -- an action that is tried, and nothing is found behind it
   pub passed-tried : (trail now last : List ℕ) (n k a : ℕ) → n < length now → take n now ≡ take n trail
-      → LengthTold actions start masks job (set now n a) (n + 1) k last false → Passed (take n trail) k a → Passed (take n trail) k (a + 1)
-  passed-tried trail now last n k a room same told passed fluents x j =
-      passed-more (take n trail) k a fluents x (passed fluents x j)
-      (none-after k (At (take n trail) fluents) x a
-      (subst (λ (l : List ℕ). NoneOf k (At l fluents) x) (grown-trail trail now n a room same) (told .each fluents x j)))
+      → LengthTold s masks job (set now n a) (n + 1) k last false → Passed (take n trail) k a → Passed (take n trail) k (a + 1)
+  passed-tried trail now last n k a room same told passed x j =
+      passed-more (take n trail) k a x (passed x j)
+      (none-after k (At (take n trail)) x a
+      (subst (λ (l : List ℕ). NoneOf k (At l) x) (grown-trail trail now n a room same) (told .each x j)))
 
   -- what stands in the trail after an action that is tried
   pub kept-tried : (trail now last : List ℕ) (n a : ℕ) → n < length now → take n now ≡ take n trail → take (n + 1) last ≡ take (n + 1) (set now n a)
@@ -86,22 +88,22 @@ module _ (actions start : ℕ) (masks job : List ℕ) where
       rw (drop-cons last n 0 (omega arith), here, add-one)
 
   pub tried-told : (trail now last : List ℕ) (n left k a asked : ℕ) → left ≡ suc k → n < length now → length last ≡ length now → take n now ≡ take n trail
-      → NextTold actions start masks job (take n trail) asked → on asked a ≡ true → Passed (take n trail) k a
-      → LengthTold actions start masks job (set now n a) (n + 1) k last true → LengthTold actions start masks job trail n left last true
+      → NextTold (subjectOf s masks (take n trail)) job asked → on asked a ≡ true → Passed (take n trail) k a
+      → LengthTold s masks job (set now n a) (n + 1) k last true → LengthTold s masks job trail n left last true
   tried-told trail now last n left k a asked one room long same next here passed told = record {
     kept = kept-tried trail now last n a room same (told .kept);
-    each = λ fluents x j.
-        let able = next .each fluents x j .possible a here in
+    each = λ x j.
+        let able = next-tries (At (take n trail)) x asked (j .onward) (next .each x j) .possible a here in
         rw (one, behind-tried now last n k a room long (told .kept))
-        (first-more k (At (take n trail) fluents) x a (take k (drop (n + 1) last)) (able .0) (able .1) (passed fluents x j)
-        (subst (λ (l : List ℕ). FirstOf k (At l fluents) x (take k (drop (n + 1) last))) (grown-trail trail now n a room same) (told .each fluents x j)));
+        (first-more k (At (take n trail)) x a (take k (drop (n + 1) last)) (able .0) (able .1) (passed x j)
+        (subst (λ (l : List ℕ). FirstOf k (At l) x (take k (drop (n + 1) last))) (grown-trail trail now n a room same) (told .each x j)));
   }
 
   -- every action is gone over
-  pub none-told : (trail now : List ℕ) (n left k : ℕ) → left ≡ suc k → take n now ≡ take n trail → Passed (take n trail) k actions
-      → LengthTold actions start masks job trail n left now false
+  pub none-told : (trail now : List ℕ) (n left k : ℕ) → left ≡ suc k → take n now ≡ take n trail → Passed (take n trail) k (s .counts .actions)
+      → LengthTold s masks job trail n left now false
   none-told trail now n left k one same passed =
-      record { kept = same; each = λ fluents x j. rw one (none-more k (At (take n trail) fluents) x (passed fluents x j)) }
+      record { kept = same; each = λ x j. rw one (none-more k (At (take n trail)) x (passed x j)) }
 
 -- there is a place behind the log
 pub place : (actions : ℕ) (masks job ends trail now : List ℕ) (n left : ℕ) → Ready actions masks job ends trail n left → length now ≡ length trail → n < length now

@@ -1,7 +1,6 @@
 -- Document 01, "Finish": what the call answers, case by case, and when an answer is right. "Its bytes go to the front of the lent output, the rest keeps its
 -- content; the count is returned."
 use mathlib.Core.Path.{_≡_}
-use mathlib.Core.Logic.{_⊎_}
 use mathlib.Core.List.{List, [], _++_}
 use Prim.Native.Nat.{ℕ}
 use lib.ListN.{length, drop}
@@ -9,9 +8,8 @@ use Rattle.refusal.specs.Number.{numberOf}
 use Rattle.meaning.specs.Theory.{World}
 use Rattle.meaning.specs.Rule.{Walk, ofWalk, jobKind, Opens}
 use Rattle.meaning.specs.Finish.{First}
-use Rattle.meaning.specs.Refusal.{Accepted, noCount}
-use Rattle.meaning.specs.Refusal.{Refused as RefusedBy}
-use Rattle.theory.specs.World.{worldOf}
+use Rattle.meaning.specs.Refusal.{Answered, noCount}
+use Rattle.theory.specs.Subject.{Subject, worldOf}
 use Rattle.finish.specs.Rows.{finishRows}
 use Rattle.finish.specs.declared.FinishAnswer.{FinishAnswer}
 use Rattle.finish.specs.declared.FinishAnswer.the-variants.{Refused, Written}
@@ -33,21 +31,13 @@ pub record Finished (w : World) (job : Walk) (more : ℕ) (before after : List �
   pub counted : count ≡ length ending
   pub written : after ≡ ending ++ drop (length ending) before
 
--- an acceptance, and a refusal, which "changes no lent byte"
-pub record Accepts (fluents actions start : ℕ) (masks log job : List ℕ) (more : ℕ) (before after : List ℕ) (number count : ℕ) : Type 0 where
-  pub none : number ≡ 0
-  pub accepted : Accepted (finishRows fluents actions start masks log job more (length before))
+-- and it is the job that the bytes spell
+pub record JobFinished (w : World) (job : List ℕ) (more : ℕ) (before after : List ℕ) (count : ℕ) : Type 0 where
   pub walk : Walk
   pub spells : Opens jobKind job (ofWalk walk) []
-  pub finished : Finished (worldOf fluents actions start masks log) walk more before after count
+  pub finished : Finished w walk more before after count
 
-pub record Refuses (fluents actions start : ℕ) (masks log job : List ℕ) (more : ℕ) (before after : List ℕ) (number count : ℕ) : Type 0 where
-  pub refused : RefusedBy (finishRows fluents actions start masks log job more (length before)) number
-  pub none : count ≡ noCount
-  pub kept : after ≡ before
-
--- the number and the count that a call with these arguments gives, and what the lent output holds after it
-abbrev pub FinishAnswered : ℕ → ℕ → ℕ → List ℕ → List ℕ → List ℕ → ℕ → List ℕ → List ℕ → ℕ → ℕ → Type 0
-FinishAnswered fluents actions start masks log job more before after number count =
-    Accepts fluents actions start masks log job more before after number count
-    ⊎ Refuses fluents actions start masks log job more before after number count
+-- the number and the count that a call gives, and what the lent output holds after it; a refusal "changes no lent byte"
+abbrev pub FinishAnswered : Subject → List ℕ → ℕ → List ℕ → ℕ → ℕ → List ℕ → Type 0
+FinishAnswered s job more before number count after =
+    Answered (finishRows s job more (length before)) number ((count ≡ noCount) × (after ≡ before)) (JobFinished (worldOf s) job more before after count)

@@ -1,4 +1,4 @@
--- What the functions of the search answer. An answer is right for every number of fluents and for the walk that the job's text spells.
+-- What the functions of the search answer. An answer is right for the walk that the job's text spells.
 use mathlib.Core.Path.{_≡_}
 use mathlib.Core.Logic.{_↔_}
 use mathlib.Core.Bool.{Bool, true, false}
@@ -11,8 +11,10 @@ use Rattle.meaning.specs.Limits.{logLimit}
 use Rattle.meaning.specs.Theory.{World, Possible}
 use Rattle.meaning.specs.Rule.{Walk}
 use Rattle.meaning.specs.Finish.{First, None}
-use Rattle.theory.specs.World.{tableMasks, worldOf}
-use Rattle.finish.specs.Search.{FirstOf, NoneOf, Tries}
+use Rattle.theory.specs.Subject.{Subject, subjectOf, tableMasks, worldOf}
+use Rattle.theory.specs.declared.Setting.{Setting}
+use Rattle.finish.specs.Search.{FirstOf, NoneOf}
+use Rattle.finish.specs.Next.{MayCome}
 use Rattle.finish.specs.Sound.{JobIs}
 use Rattle.finish.specs.Answer.{Finished}
 use Rattle.finish.specs.declared.FinishAnswer.{FinishAnswer}
@@ -24,9 +26,9 @@ use Rattle.finish.specs.declared.search.Found.the-variants.{At, Nothing}
 pub record Doable (actions : ℕ) (masks : List ℕ) (state asked : ℕ) : Type 0 where
   pub each : (a : ℕ) → (on asked a ≡ true) ↔ ((a < actions) × Possible (tableMasks masks a) state)
 
--- the actions to try next
-pub record NextTold (actions start : ℕ) (masks job log : List ℕ) (asked : ℕ) : Type 0 where
-  pub each : (fluents : ℕ) (x : Walk) → JobIs job x → Tries (worldOf fluents actions start masks log) x asked
+-- the actions that may come next, bit a for action a
+pub record NextTold (s : Subject) (job : List ℕ) (actions : ℕ) : Type 0 where
+  pub each : (x : Walk) → JobIs job x → MayCome (worldOf s) x actions
 
 -- this is the first sequence of k actions that completes the job; there is none
 abbrev pub OneLength : Bool → ℕ → World → Walk → List ℕ → Type 0
@@ -34,10 +36,9 @@ OneLength true k w x ending = FirstOf k w x ending
 OneLength false k w x ending = NoneOf k w x
 
 -- Of k actions behind the first n of the trail, which are kept: the sequence stands behind them at the end.
-pub record LengthTold (actions start : ℕ) (masks job trail : List ℕ) (n k : ℕ) (last : List ℕ) (answer : Bool) : Type 0 where
+pub record LengthTold (s : Setting) (masks job trail : List ℕ) (n k : ℕ) (last : List ℕ) (answer : Bool) : Type 0 where
   pub kept : take n last ≡ take n trail
-  pub each : (fluents : ℕ) (x : Walk) → JobIs job x
-      → OneLength answer k (worldOf fluents actions start masks (take n trail)) x (take k (drop n last))
+  pub each : (x : Walk) → JobIs job x → OneLength answer k (worldOf (subjectOf s masks (take n trail))) x (take k (drop n last))
 
 -- and of all lengths up to more
 abbrev pub AllLengths : Found → ℕ → World → Walk → List ℕ → Type 0
@@ -49,15 +50,14 @@ abbrev pub Within : Found → ℕ → ℕ → Type 0
 Within (At k) n more = (k ≤ more) × (n + k ≤ logLimit)
 Within Nothing n more = Unit {0}
 
-pub record FinishTold (actions start : ℕ) (masks job trail : List ℕ) (n more : ℕ) (last : List ℕ) (answer : Found) : Type 0 where
+pub record FinishTold (s : Setting) (masks job trail : List ℕ) (n more : ℕ) (last : List ℕ) (answer : Found) : Type 0 where
   pub fits : Within answer n more
-  pub each : (fluents : ℕ) (x : Walk) → JobIs job x
-      → AllLengths answer more (worldOf fluents actions start masks (take n trail)) x (drop n last)
+  pub each : (x : Walk) → JobIs job x → AllLengths answer more (worldOf (subjectOf s masks (take n trail))) x (drop n last)
 
 -- what the search alone answers, once nothing but 11 is left to refuse
 abbrev pub Sought : FinishAnswer → World → Walk → ℕ → List ℕ → List ℕ → Type 0
 Sought (Refused r) w job more before after = (numberOf r ≡ 11) × None w job more × (after ≡ before)
 Sought (Written n) w job more before after = Finished w job more before after n
 
-pub record SoughtTold (actions start : ℕ) (masks log job : List ℕ) (more : ℕ) (before after : List ℕ) (answer : FinishAnswer) : Type 0 where
-  pub each : (fluents : ℕ) (x : Walk) → JobIs job x → Sought answer (worldOf fluents actions start masks log) x more before after
+pub record SoughtTold (s : Subject) (job : List ℕ) (more : ℕ) (before after : List ℕ) (answer : FinishAnswer) : Type 0 where
+  pub each : (x : Walk) → JobIs job x → Sought answer (worldOf s) x more before after

@@ -2,4 +2,5 @@ pub mod Rows
 pub mod Answer
 pub mod Search
 pub mod Sound
+pub mod Next
 pub mod Found

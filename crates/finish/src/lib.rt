@@ -1,21 +1,24 @@
 // The search for the sequence that finishes a job: shorter before longer, then smaller action numbers first. Knows the theory, the log and the job's text.
 ghost use lib.ListN.{length};
-ghost use Rattle.finish.specs.Sound.{Wanted};
+ghost use Rattle.meaning.specs.Refusal.{Accepted};
+ghost use Rattle.theory.specs.Subject.{subjectOf};
+ghost use Rattle.finish.specs.Rows.{checkRows};
 ghost use Rattle.finish.specs.Answer.{numberGiven, countGiven, FinishAnswered};
+ghost use Rattle.finish.specs.Next;
+ghost use Rattle.finish.specs.Next.{actionsGiven, NextAnswered};
 ghost use Rattle.finish.specs.Found.{SoughtTold};
 
+mod checks; // checks.rt: which refusal the call is given before it searches
 mod search; // search.rt: the search itself
 mod tries; // tries.rt: the actions to try next
 
 use positions::PositionSet;
 use refusal::Refusal;
-use rule::Checked;
-use rule::Kind;
 use rule::ends::ENDS_ROOM;
 use rule::ends::fill_ends;
 use search::Found;
 use theory::Check;
-use theory::faults;
+use theory::Setting;
 
 // The largest bound on the sequence's length.
 pub const MORE_LIMIT: usize = 6;
@@ -26,24 +29,29 @@ pub enum FinishAnswer {
     Written(usize),
 }
 
-// The search, once every check is passed.
-fn seek(
-    actions: usize,
-    start: u32,
+// What the call `next` answers: a refusal, or the actions that may come next, bit a for action a.
+pub enum NextAnswer {
+    Refused(Refusal),
+    Actions(u64),
+}
+
+// The search, once every check is passed: for whoever has passed them.
+pub fn seek(
+    s: Setting,
     masks: &[u32],
     log: &[u8],
     job: &[u8],
     more: usize,
     out: &mut [u8],
 ) -> FinishAnswer
-    requires { ⌜ Wanted actions (now masks) (now log) (now job) more (length (now out)) ⌝ }
-    ensures { λ r. ⌜ SoughtTold actions start (now (masks .entry)) (now (log .entry)) (now (job .entry)) more (now (out .entry)) (now (out .exit)) r ⌝ }
+    requires { ⌜ Accepted (checkRows (subjectOf s (now masks) (now log)) (now job) more (length (now out))) ⌝ }
+    ensures { λ r. ⌜ SoughtTold (subjectOf s (now (masks .entry)) (now (log .entry))) (now (job .entry)) more (now (out .entry)) (now (out .exit)) r ⌝ }
 {
     let mut ends = [0u8; ENDS_ROOM];
     fill_ends(job, &mut ends);
     let mut trail = [0u8; PositionSet::PLACES];
     let n = bytes::copy(log, &mut trail);
-    match search::first(actions, start, masks, job, &ends, &mut trail, n, more) {
+    match search::first(s, masks, job, &ends, &mut trail, n, more) {
         Found::Nothing => FinishAnswer::Refused(Refusal::NoFinish),
         Found::At(k) => {
             let end = n + k;
@@ -55,30 +63,32 @@ fn seek(
 
 // "The first action sequence": its bytes go to the front of the lent output, the rest of which keeps its content.
 pub fn finish(
-    fluents: usize,
-    actions: usize,
-    start: u32,
+    s: Setting,
     masks: &[u32],
     log: &[u8],
     job: &[u8],
     more: usize,
     out: &mut [u8],
 ) -> FinishAnswer
-    ensures { λ r. ⌜ FinishAnswered fluents actions start (now (masks .entry)) (now (log .entry)) (now (job .entry)) more (now (out .entry)) (now (out .exit)) (numberGiven r) (countGiven r) ⌝ }
+    ensures { λ r. ⌜ FinishAnswered (subjectOf s (now (masks .entry)) (now (log .entry))) (now (job .entry)) more (now (out .entry)) (numberGiven r) (countGiven r) (now (out .exit)) ⌝ }
 {
-    if MORE_LIMIT < more {
-        return FinishAnswer::Refused(Refusal::BadNumber);
-    }
-    match faults::check_world(fluents, actions, start, masks, log) {
+    let room = out.len();
+    match checks::check(s, masks, log, job, more, room) {
         Check::Refused(r) => FinishAnswer::Refused(r),
-        Check::Sound => match rule::check_rule(job, Kind::Job, fluents, actions) {
-            Checked::Refused(r) => FinishAnswer::Refused(r),
-            Checked::Fits(_) => {
-                if out.len() < more {
-                    return FinishAnswer::Refused(Refusal::ShortOutput);
-                }
-                seek(actions, start, masks, log, job, more, out)
-            }
-        },
+        Check::Sound => seek(s, masks, log, job, more, out),
+    }
+}
+
+// Which actions may come next: those that the job waits for at the log's end and that are possible there.
+pub fn next(s: Setting, masks: &[u32], log: &[u8], job: &[u8]) -> NextAnswer
+    ensures { λ r. ⌜ NextAnswered (subjectOf s (now (masks .entry)) (now (log .entry))) (now (job .entry)) (Next.numberGiven r) (actionsGiven r) ⌝ }
+{
+    match checks::check_job(s, masks, log, job) {
+        Check::Refused(r) => NextAnswer::Refused(r),
+        Check::Sound => {
+            let mut ends = [0u8; ENDS_ROOM];
+            fill_ends(job, &mut ends);
+            NextAnswer::Actions(tries::tries(s, masks, job, &ends, log))
+        }
     }
 }

@@ -8,6 +8,7 @@ use crate::tries::tries;
 use ask::job;
 use positions::PositionSet;
 use rule::ends::ENDS_ROOM;
+use theory::Setting;
 
 // How many actions the first finishing sequence has.
 pub enum Found {
@@ -17,8 +18,7 @@ pub enum Found {
 
 // The first sequence of exactly `left` actions behind the first n of the trail: whether there is one; it then stands there.
 fn complete(
-    actions: usize,
-    start: u32,
+    s: Setting,
     masks: &[u32],
     job: &[u8],
     ends: &[u8; ENDS_ROOM],
@@ -26,21 +26,23 @@ fn complete(
     n: usize,
     left: usize,
 ) -> bool
-    requires { ⌜ Ready actions (now masks) (now job) (now ends) (now trail) n left ⌝ }
-    ensures { λ r. ⌜ LengthTold actions start (now (masks .entry)) (now (job .entry)) (now (trail .entry)) n left (now (trail .exit)) r ⌝ }
+    requires { ⌜ Ready (s .counts .actions) (now masks) (now job) (now ends) (now trail) n left ⌝ }
+    ensures { λ r. ⌜ LengthTold s (now (masks .entry)) (now (job .entry)) (now (trail .entry)) n left (now (trail .exit)) r ⌝ }
 {
     if left == 0 {
-        return job::ended(start, masks, &trail[..n], job, ends);
+        return job::ended(s, masks, &trail[..n], job, ends);
     }
     let rest = left - 1;
     let next = n + 1;
-    let asked = tries(actions, start, masks, job, ends, &trail[..n]);
+    let asked = tries(s, masks, job, ends, &trail[..n]);
+    let counts = s.counts;
+    let actions = counts.actions;
     let mut a = 0;
     while a < actions {
         let from_a = asked >> a;
         if from_a % 2 == 1 {
             trail[n] = a as u8;
-            if complete(actions, start, masks, job, ends, trail, next, rest) {
+            if complete(s, masks, job, ends, trail, next, rest) {
                 return true;
             }
         }
@@ -60,8 +62,7 @@ fn longest(n: usize, more: usize) -> usize
 
 // The first sequence of all that finish the job: how many actions it has; they then stand behind the first n of the trail, which hold the log.
 pub(crate) fn first(
-    actions: usize,
-    start: u32,
+    s: Setting,
     masks: &[u32],
     job: &[u8],
     ends: &[u8; ENDS_ROOM],
@@ -69,13 +70,13 @@ pub(crate) fn first(
     n: usize,
     more: usize,
 ) -> Found
-    requires { ⌜ Ready actions (now masks) (now job) (now ends) (now trail) n 0 ⌝ }
-    ensures { λ r. ⌜ FinishTold actions start (now (masks .entry)) (now (job .entry)) (now (trail .entry)) n more (now (trail .exit)) r ⌝ }
+    requires { ⌜ Ready (s .counts .actions) (now masks) (now job) (now ends) (now trail) n 0 ⌝ }
+    ensures { λ r. ⌜ FinishTold s (now (masks .entry)) (now (job .entry)) (now (trail .entry)) n more (now (trail .exit)) r ⌝ }
 {
     let most = longest(n, more);
     let mut k = 0;
     while k <= most {
-        if complete(actions, start, masks, job, ends, trail, n, k) {
+        if complete(s, masks, job, ends, trail, n, k) {
             return Found::At(k);
         }
         k += 1;

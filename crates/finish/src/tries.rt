@@ -1,8 +1,10 @@
 // Which actions may come next: one answer, a word with bit a for action a.
+ghost use Rattle.theory.specs.Subject.{subjectOf};
 ghost use Rattle.finish.specs.Sound.{Table, Node};
 ghost use Rattle.finish.specs.Found.{Doable, NextTold};
 use ask::job;
 use rule::ends::ENDS_ROOM;
+use theory::Setting;
 use theory::log;
 use theory::step;
 
@@ -23,21 +25,21 @@ fn doable(actions: usize, masks: &[u32], state: u32) -> u64
     asked
 }
 
-// The actions to try next: those that are possible and that the job asks for. No other could begin a rest that finishes the job.
+// The actions that may come next: those that are possible and that the job asks for. No other could begin a rest that finishes the job.
 pub(crate) fn tries(
-    actions: usize,
-    start: u32,
+    s: Setting,
     masks: &[u32],
     job: &[u8],
     ends: &[u8; ENDS_ROOM],
     log: &[u8],
 ) -> u64
-    requires { ⌜ Node actions (now masks) (now job) (now ends) (now log) ⌝ }
-    ensures { λ r. ⌜ NextTold actions start (now (masks .entry)) (now (job .entry)) (now (log .entry)) r ⌝ }
+    requires { ⌜ Node (s .counts .actions) (now masks) (now job) (now ends) (now log) ⌝ }
+    ensures { λ r. ⌜ NextTold (subjectOf s (now (masks .entry)) (now (log .entry))) (now (job .entry)) r ⌝ }
 {
-    let asked = job::asked(start, masks, log, job, ends);
+    let asked = job::asked(s, masks, log, job, ends);
     let end = log.len();
-    let state = log::state_at(masks, start, log, end);
-    let able = doable(actions, masks, state);
+    let state = log::state_at(s, masks, log, end);
+    let counts = s.counts;
+    let able = doable(counts.actions, masks, state);
     able & asked
 }

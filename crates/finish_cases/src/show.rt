@@ -1,6 +1,8 @@
 // One call and what it answers, written as a line.
 use finish::FinishAnswer;
 use finish::finish;
+use theory::Counts;
+use theory::Setting;
 
 // A number below a hundred, in two digits.
 fn two(n: u8) {
@@ -57,7 +59,9 @@ pub(crate) fn run_into(
     io::write_all(1, b" job=");
     io::write_all(1, job);
     io::write_all(1, b": ");
-    let answer = finish(fluents, actions, start, masks, log, job, more, out);
+    let counts = Counts { fluents, actions };
+    let s = Setting { counts, start };
+    let answer = finish(s, masks, log, job, more, out);
     answer_of(answer, out);
 }
 

@@ -1,5 +1,5 @@
 -- The binary digits of a number, lowest first. Knows nothing of jobs, logs or rules.
-use mathlib.Core.Bool.{Bool, true, false, cond}
+use mathlib.Core.Bool.{Bool, cond}
 use Prim.Native.Nat.{ℕ, zero, suc, _+_, _/_, _%_, _^_}
 use lib.Dec.{eqb}
 

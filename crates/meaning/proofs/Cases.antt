@@ -17,10 +17,10 @@ use Rattle.meaning.specs.Limits.{places}
 use Rattle.meaning.specs.Theory.{World}
 use Rattle.meaning.specs.Rule.{Walk, Rule, Kind, testKind, walkKind, jobKind, ofTest, ofWalk, text, walkText}
 use Rattle.meaning.specs.Leads.{Leads, Holds}
-use Rattle.meaning.specs.Reach.{Reached}
+use Rattle.meaning.specs.Reach.{ReachedAs}
 use Rattle.meaning.specs.Normal.{normal, normalRule}
-use Rattle.meaning.specs.Cases.{Verdict, yes, no, Finished, sequence, refusal, Case, reach, verdict, form, finish, cases, jobWith}
-use Rattle.meaning.specs.Cases.{Spelled, OfWalk, OfTest, Told, Ends, Says, AllSay}
+use Rattle.meaning.specs.Cases.{CaseVerdict, yes, no, CaseEnding, sequence, refusal, Case, reach, verdict, form, finish, cases, jobWith}
+use Rattle.meaning.specs.Cases.{SpelledAs, OfWalk, OfTest, IsSo, Finishing, CaseSays, AllSay}
 use Rattle.meaning.proofs.Bounds.{leads-within}
 use Rattle.laws.proofs.Count.{count-cut}
 use Rattle.laws.proofs.First.{firstUpTo, first-cut}
@@ -38,11 +38,11 @@ spelled test (got rule (b ∷ rest)) = false
 spelled test bad = false
 
 spelled-true : {Said : Rule → Type 0} (kind : Kind) (l : List ℕ) (test : Rule → Bool) → ((rule : Rule) → test rule ≡ true → Said rule)
-    → spelled test (readRule kind l) ≡ true → Spelled kind l Said
+    → spelled test (readRule kind l) ≡ true → SpelledAs kind l Said
 unfolding spelled
 spelled-true {Said} kind l test said = go (readRule kind l) refl
   where
-    go : (found : Got Rule) → readRule kind l ≡ found → spelled test found ≡ true → Spelled kind l Said
+    go : (found : Got Rule) → readRule kind l ≡ found → spelled test found ≡ true → SpelledAs kind l Said
     go (got rule []) r e =
         let opens = opens-of-read kind l rule [] r in
         record { rule = rule; opens = opens; only = λ other o. unique-reading o opens .0; said = said rule e }
@@ -65,7 +65,7 @@ module _ (w : World) (t n set count earliest : ℕ) where
       rw on-gather
       (tells-as (and-tells (lt-tells q (suc n)) (leads-draws w x t q n)) (λ h. h .1) (λ h. (omega (arith, leads-within w x t q n h), h)))
 
-  reaches-true : (rule : Rule) → reaches rule ≡ true → OfWalk (λ x. Reached w x t n set count earliest) rule
+  reaches-true : (rule : Rule) → reaches rule ≡ true → OfWalk (λ x. ReachedAs w x t n set count earliest) rule
   unfolding reaches
   reaches-true (ofTest x) e = absurd (false≢true e)
   reaches-true (ofWalk x) e =
@@ -75,33 +75,37 @@ module _ (w : World) (t n set count earliest : ℕ) where
       (and-tells (eq-tells count (countBelow (suc n) (on set))) (eq-tells earliest (firstUpTo (suc n) places (on set))))) .0 e in
       let small : set < 2 ^ suc n = rw (is .1 .0) (gather-lt (suc n) (leadsGrid w x n t)) in
       record {
-        word = lt-of-lt-of-le small (pow-mono (is .0));
-        holds = λ q. rw (is .1 .0) (set-tells x q);
-        counted = is .1 .1 .0 ∙ sym (count-cut (suc n) places (on set) (λ i. on-high (suc n) small) (is .0));
-        first = is .1 .1 .1 ∙ sym (first-cut (suc n) places (on set) (λ i. on-high (suc n) small) (is .0));
+        held = on set;
+        written = record { width = lt-of-lt-of-le small (pow-mono (is .0)); bits = λ q. refl };
+        reached =
+            record {
+              holds = λ q. rw (is .1 .0) (set-tells x q);
+              counted = is .1 .1 .0 ∙ sym (count-cut (suc n) places (on set) (λ i. on-high (suc n) small) (is .0));
+              first = is .1 .1 .1 ∙ sym (first-cut (suc n) places (on set) (λ i. on-high (suc n) small) (is .0));
+            };
       }
 
 module _ (w : World) (t n : ℕ) where
-  told : Verdict → Rule → Bool
+  told : CaseVerdict → Rule → Bool
   unfolding valueOf
   told answer (ofWalk x) = false
   told yes (ofTest x) = valueOf w x n t
   told no (ofTest x) = not (valueOf w x n t)
 
-  told-true : (answer : Verdict) (rule : Rule) → told answer rule ≡ true → OfTest (λ x. Told answer (Holds w x t n)) rule
+  told-true : (answer : CaseVerdict) (rule : Rule) → told answer rule ≡ true → OfTest (λ x. IsSo answer (Holds w x t n)) rule
   unfolding told
   told-true answer (ofWalk x) e = absurd (false≢true e)
   told-true yes (ofTest x) e = value-gives w x t n .0 e
   told-true no (ofTest x) e = not-tells (value-gives w x t n) .0 e
 
 module _ (w : World) (more : ℕ) where
-  ends : Finished → Rule → Bool
+  ends : CaseEnding → Rule → Bool
   unfolding first nothing
   ends ending (ofTest x) = false
   ends (sequence s) (ofWalk x) = first w x more s
   ends (refusal number) (ofWalk x) = eqb number 11 && nothing w x more
 
-  ends-true : (ending : Finished) (rule : Rule) → ends ending rule ≡ true → OfWalk (Ends w more ending) rule
+  ends-true : (ending : CaseEnding) (rule : Rule) → ends ending rule ≡ true → OfWalk (Finishing w more ending) rule
   unfolding ends
   ends-true ending (ofTest x) e = absurd (false≢true e)
   ends-true (sequence s) (ofWalk x) e = first-true w x more s e
@@ -116,7 +120,7 @@ right (verdict log test t n answer) = spelled (told (jobWith log) t n answer) (r
 right (form kind rule normal) = spelled (λ x. same (text (normalRule x)) (bytes normal)) (readRule kind (bytes rule))
 right (finish log job more ending) = spelled (ends (jobWith log) more ending) (readRule jobKind (bytes job))
 
-right-says : (c : Case) → right c ≡ true → Says c
+right-says : (c : Case) → right c ≡ true → CaseSays c
 unfolding right
 right-says (reach log walk t n set count earliest) =
     spelled-true walkKind (bytes walk) (reaches (jobWith log) t n set count earliest) (reaches-true (jobWith log) t n set count earliest)
@@ -144,7 +148,7 @@ all-say k [] e = tt
 all-say k (c ∷ rest) e = go (right c) refl e (all-say (suc k) rest)
   where
     go : (b : Bool) → right c ≡ b → _≡_ {A = Checked} (elim b [ true ↦ check (suc k) rest | false ↦ wrong k c ]) allRight
-        → (check (suc k) rest ≡ allRight → AllSay rest) → Says c × AllSay rest
+        → (check (suc k) rest ≡ allRight → AllSay rest) → CaseSays c × AllSay rest
     go true r e further = (right-says c r, further e)
     go false r e further = let z : _≡_ {A = ℕ} 0 1 = cc in absurd (omega arith)
 

@@ -8,7 +8,7 @@ use native.Mathlib.Omega.{arith}
 use lib.Dec.{eqb}
 use lib.ListN.{length}
 use borrow.Author.Tests.{eqb-true}
-use Rattle.meaning.specs.Limits.{twoDigits}
+use Rattle.meaning.specs.Limits.{numberLimit}
 use Rattle.meaning.specs.Rule.{
   Walk,
   Test,
@@ -205,10 +205,10 @@ test-step b l = each-step (testSign b) l
 
 -- What is read is what is written: no reader finds a rule that is not spelled there, or one with a number of more than two digits.
 abbrev pub ShortWalk : Walk → Type 0
-ShortWalk w = (walkNames upTo other w ≤ twoDigits) × (walkNames other upTo w ≤ twoDigits)
+ShortWalk w = (walkNames upTo other w ≤ numberLimit) × (walkNames other upTo w ≤ numberLimit)
 
 abbrev pub ShortTest : Test → Type 0
-ShortTest t = (testNames upTo other t ≤ twoDigits) × (testNames other upTo t ≤ twoDigits)
+ShortTest t = (testNames upTo other t ≤ numberLimit) × (testNames other upTo t ≤ numberLimit)
 
 abbrev walkScript : Script Walk
 walkScript = record { spell = walkText; short = ShortWalk }

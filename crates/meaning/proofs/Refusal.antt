@@ -1,111 +1,129 @@
--- Laws of the refusals: the number given is one, none is given beside an acceptance, how a call's checks make either, a line for each row of its table, and
--- how two tables, one after the other, are settled. Knows the rows' numbers; what a row says stays shut.
-use mathlib.Core.Path.{_≡_, refl}
+-- Laws of the refusals: the number given is one, none is given beside an acceptance, how a call's checks make either, a line for each row of its list, how two
+-- lists, one after the other, are settled, and that an answer is one. What a row says stays shut.
+use mathlib.Core.Path.{_≡_, refl, sym, subst, _∙_}
 use mathlib.Core.Logic.{_⊎_, inl, inr, ⊎-elim}
-use mathlib.Core.Bool.{Bool, true, false}
-use mathlib.Core.List.{List, [], _∷_, _++_}
-use Prim.Native.Nat.{ℕ, _≤_, _<_}
+use mathlib.Core.Bool.{Bool, true, false, cond}
+use mathlib.Core.List.{List, [], _∷_, _++_, cons≢nil}
+use mathlib.Core.Option.{Option}
+use Prim.Native.Nat.{ℕ, _≤_}
 use native.Mathlib.Omega.{arith}
-use lib.Dec.{T, when as provided, leb, leb→le}
-use Rattle.meaning.specs.Refusal.{Row, _when_, Applies, Refused, Accepted}
+use lib.Dec.{T, leb, leb→le}
+use Rattle.meaning.specs.Refusal.{Row, _when_, FirstHolding, Refused, Accepted, fallsFrom, falls, Answered, YesOrNo}
 
--- "smallest number first": two numbers given are equal
+-- the first row that holds is one
+first-unique : (rows : List {1} Row) (n m : ℕ) → FirstHolding rows n → FirstHolding rows m → n ≡ m
+first-unique (row ∷ rows) n m (inl h) (inl k) = h .0 ∙ sym (k .0)
+first-unique (row ∷ rows) n m (inl h) (inr k) = absurd (k .0 (h .1))
+first-unique (row ∷ rows) n m (inr h) (inl k) = absurd (h .0 (k .1))
+first-unique (row ∷ rows) n m (inr h) (inr k) = first-unique rows n m (h .1) (k .1)
+
 pub refused-unique : {rows : List {1} Row} {N M : ℕ} → Refused rows N → Refused rows M → N ≡ M
-refused-unique {rows} {N} {M} r s =
-    let up : ¬ (M < N) = λ l. r .smallest M l (s .applies) in
-    let down : ¬ (N < M) = λ l. s .smallest N l (r .applies) in
-    omega arith
+refused-unique {rows} {N} {M} r s = first-unique rows N M (r .first) (s .first)
 
 -- a call refuses or accepts, never both
-pub refused-not-accepted : {rows : List {1} Row} {N : ℕ} → Refused rows N → Accepted rows → ⊥
-refused-not-accepted {rows} {N} r a = a N (r .applies)
+not-both : (rows : List {1} Row) (n : ℕ) → FirstHolding rows n → Accepted rows → ⊥
+not-both (row ∷ rows) n (inl h) a = a .0 (h .1)
+not-both (row ∷ rows) n (inr h) a = not-both rows n (h .1) (a .1)
 
--- A call's proof goes down its table. A row that does not hold is passed over, whatever its number.
+pub refused-not-accepted : {rows : List {1} Row} {N : ℕ} → Refused rows N → Accepted rows → ⊥
+refused-not-accepted {rows} {N} r a = not-both rows N (r .first) a
+
+-- A call's proof goes down its list. A row that does not hold is passed over.
 pub past : {row : Row} {rows : List {1} Row} {N : ℕ} → (row .given → ⊥) → Refused rows N → Refused (row ∷ rows) N
-past not r = record { applies = inr (r .applies); smallest = λ k l. ⊎-elim (λ h. not (h .1)) (r .smallest k l) }
+past not r = record { first = inr (not, r .first) }
 
 -- and back: it gave no number
 pub rest-refused : {row : Row} {rows : List {1} Row} {N : ℕ} → (row .given → ⊥) → Refused (row ∷ rows) N → Refused rows N
-rest-refused not r = record { applies = ⊎-elim (λ h. absurd (not (h .1))) (λ a. a) (r .applies); smallest = λ k l a. r .smallest k l (inr a) }
+rest-refused not r = record { first = ⊎-elim (λ h. absurd (not (h .1))) (λ h. h .1) (r .first) }
 
--- The first row that holds gives its number, where no row after it has a smaller one: of a written table that is computed, so that `tt` proves it.
-abbrev pub Rising : ℕ → List {1} Row → Type 0
-Rising k [] = Unit {0}
-Rising k (row ∷ rows) = provided (leb k (row .number)) (Rising k rows)
+-- a row that holds, with none before it, gives its number
+pub here : {k : ℕ} {given : Type 0} {rows : List {1} Row} → given → Refused ((k when given) ∷ rows) k
+here h = record { first = inl (refl, h) }
 
--- what such a test says: it passes, and the rest holds
-passed : {X : Type 0} (b : Bool) → provided b X → T b × X
-passed true x = (tt, x)
-passed false x = absurd x
+-- A call that passes every row accepts: `passes h (passes h′ accepts)` is of `Accepted (row ∷ row′ ∷ [])`.
+pub accepts : Unit {0}
+accepts = tt
 
-none-below : (rows : List {1} Row) (k j : ℕ) → Rising k rows → j < k → Applies rows j → ⊥
-none-below [] k j up l a = a
-none-below (row ∷ rows) k j up l (inl h) =
-    let e : j ≡ row .number = h .0 in
-    let b : k ≤ row .number = leb→le k (row .number) (passed (leb k (row .number)) up .0) in
-    omega arith
-none-below (row ∷ rows) k j up l (inr a) = none-below rows k j (passed (leb k (row .number)) up .1) l a
-
-pub here : {k : ℕ} {given : Type 0} {rows : List {1} Row} → Rising k rows → given → Refused ((k when given) ∷ rows) k
-here {k} {given} {rows} up h =
-    record { applies = inl (refl, h); smallest = λ j l. ⊎-elim (λ a. absurd (omega (arith, a .0))) (none-below rows k j up l) }
-
--- A call that passes every row accepts: `passes h (passes h′ accepts)` is of `Accepted (row ∷ row′ ∷ [])`. The rest of the table is written by what
--- applies there, so that it is inferred.
-pub accepts : Accepted []
-accepts k a = a
-
-pub passes : {n : ℕ} {given : Type 0} {rest : ℕ → Type 0} → (given → ⊥) → ((k : ℕ) → rest k → ⊥) → (k : ℕ) → ((k ≡ n) × given) ⊎ rest k → ⊥
-passes not a k = ⊎-elim (λ h. not (h .1)) (a k)
+pub passes : {given rest : Type 0} → (given → ⊥) → rest → (given → ⊥) × rest
+passes not a = (not, a)
 
 -- What an acceptance tells: the first row does not hold, and the rest accepts.
-pub not-first : {n : ℕ} {given : Type 0} {rest : ℕ → Type 0} → ((k : ℕ) → ((k ≡ n) × given) ⊎ rest k → ⊥) → given → ⊥
-not-first {n} a h = a n (inl (refl, h))
+pub not-first : {given rest : Type 0} → (given → ⊥) × rest → given → ⊥
+not-first a = a .0
 
-pub not-rest : {n : ℕ} {given : Type 0} {rest : ℕ → Type 0} → ((k : ℕ) → ((k ≡ n) × given) ⊎ rest k → ⊥) → (k : ℕ) → rest k → ⊥
-not-rest a k h = a k (inr h)
+pub not-rest : {given rest : Type 0} → (given → ⊥) × rest → rest
+not-rest a = a .1
 
--- Two tables, one after the other: where the first refuses, its number stands; where it accepts, the second decides.
-in-first : (xs ys : List {1} Row) (k : ℕ) → Applies xs k → Applies (xs ++ ys) k
-in-first (row ∷ xs) ys k (inl h) = inl h
-in-first (row ∷ xs) ys k (inr a) = inr (in-first xs ys k a)
+-- Two lists, one after the other: where the first refuses, its number stands; where it accepts, the second decides.
+first-in : (xs ys : List {1} Row) (n : ℕ) → FirstHolding xs n → FirstHolding (xs ++ ys) n
+first-in (row ∷ xs) ys n (inl h) = inl h
+first-in (row ∷ xs) ys n (inr h) = inr (h .0, first-in xs ys n (h .1))
 
-in-second : (xs ys : List {1} Row) (k : ℕ) → Applies ys k → Applies (xs ++ ys) k
-in-second [] ys k a = a
-in-second (row ∷ xs) ys k a = inr (in-second xs ys k a)
+pub refused-first : (xs ys : List {1} Row) {N : ℕ} → Refused xs N → Refused (xs ++ ys) N
+refused-first xs ys {N} r = record { first = first-in xs ys N (r .first) }
 
-in-which : (xs ys : List {1} Row) (k : ℕ) → Applies (xs ++ ys) k → Applies xs k ⊎ Applies ys k
-in-which [] ys k a = inr a
-in-which (row ∷ xs) ys k (inl h) = inl (inl h)
-in-which (row ∷ xs) ys k (inr a) = ⊎-elim (λ l. inl (inr l)) inr (in-which xs ys k a)
+first-behind : (xs ys : List {1} Row) (n : ℕ) → Accepted xs → FirstHolding ys n → FirstHolding (xs ++ ys) n
+first-behind [] ys n a h = h
+first-behind (row ∷ xs) ys n a h = inr (a .0, first-behind xs ys n (a .1) h)
 
--- no row has a number above k: of a written table that is computed, so that `tt` proves it
-abbrev pub Capped : ℕ → List {1} Row → Type 0
-Capped k [] = Unit {0}
-Capped k (row ∷ rows) = provided (leb (row .number) k) (Capped k rows)
-
-none-above : (rows : List {1} Row) (k j : ℕ) → Capped k rows → Applies rows j → j ≤ k
-none-above (row ∷ rows) k j capped (inl h) =
-    let e : j ≡ row .number = h .0 in
-    omega (arith, leb→le (row .number) k (passed (leb (row .number) k) capped .0))
-none-above (row ∷ rows) k j capped (inr a) = none-above rows k j (passed (leb (row .number) k) capped .1) a
-
--- the first table's number stands, where the second has none that is smaller
-pub refused-first : (xs ys : List {1} Row) (k : ℕ) {N : ℕ} → Capped k xs → Rising k ys → Refused xs N → Refused (xs ++ ys) N
-refused-first xs ys k {N} capped up r =
-    let low : N ≤ k = none-above xs k N capped (r .applies) in
-    record {
-      applies = in-first xs ys N (r .applies);
-      smallest = λ j l a. ⊎-elim (r .smallest j l) (λ b. here {k = k} {given = Unit {0}} {rows = ys} up tt .smallest j (omega arith) (inr b)) (in-which xs ys j a);
-    }
-
--- the second table decides, where the first accepts
 pub refused-second : (xs ys : List {1} Row) {N : ℕ} → Accepted xs → Refused ys N → Refused (xs ++ ys) N
-refused-second xs ys {N} a r =
-    record {
-      applies = in-second xs ys N (r .applies);
-      smallest = λ j l b. ⊎-elim (a j) (r .smallest j l) (in-which xs ys j b);
-    }
+refused-second xs ys {N} a r = record { first = first-behind xs ys N a (r .first) }
 
 pub accepted-both : (xs ys : List {1} Row) → Accepted xs → Accepted ys → Accepted (xs ++ ys)
-accepted-both xs ys a b k h = ⊎-elim (a k) (b k) (in-which xs ys k h)
+accepted-both [] ys a b = b
+accepted-both (row ∷ xs) ys a b = (a .0, accepted-both xs ys (a .1) b)
+
+-- and back: both accept; where the first accepts, what is refused is refused by the second
+pub accepted-parts : (xs ys : List {1} Row) → Accepted (xs ++ ys) → Accepted xs × Accepted ys
+accepted-parts [] ys a = (tt, a)
+accepted-parts (row ∷ xs) ys a = let parts = accepted-parts xs ys (a .1) in ((a .0, parts .0), parts .1)
+
+behind : (xs ys : List {1} Row) (n : ℕ) → Accepted xs → FirstHolding (xs ++ ys) n → FirstHolding ys n
+behind [] ys n a h = h
+behind (row ∷ xs) ys n a (inl h) = absurd (a .0 (h .1))
+behind (row ∷ xs) ys n a (inr h) = behind xs ys n (a .1) (h .1)
+
+pub refused-behind : (xs ys : List {1} Row) {N : ℕ} → Accepted xs → Refused (xs ++ ys) N → Refused ys N
+refused-behind xs ys {N} a r = record { first = behind xs ys N a (r .first) }
+
+-- Two answers of one call have one number, and both are refused or both are right: what follows from either follows.
+pub answered-determined :
+    {rows : List {1} Row} {N M : ℕ} {B B′ R R′ X : Type 0}
+    → Answered rows N B R → Answered rows M B′ R′ → (N ≡ M → B → B′ → X) → (N ≡ M → R → R′ → X) → X
+answered-determined (inl r) (inl s) blank right = blank (refused-unique (r .refused) (s .refused)) (r .blank) (s .blank)
+answered-determined (inl r) (inr s) blank right = absurd (refused-not-accepted (r .refused) (s .accepted))
+answered-determined (inr r) (inl s) blank right = absurd (refused-not-accepted (s .refused) (r .accepted))
+answered-determined (inr r) (inr s) blank right = right (r .none ∙ sym (s .none)) (r .right) (s .right)
+
+-- Where the numbers of a list fall nowhere, the number given is the smallest of those whose rows hold: "smallest number first".
+abbrev pub Applies : List {1} Row → ℕ → Type 0
+Applies [] k = ⊥
+Applies (row ∷ rows) k = ((k ≡ row .number) × row .given) ⊎ Applies rows k
+
+no-fall : (b : Bool) (fall : ℕ × ℕ) (xs : List (ℕ × ℕ)) → cond b xs (fall ∷ xs) ≡ [] → (b ≡ true) × (xs ≡ [])
+no-fall true fall xs e = (refl, e)
+no-fall false fall xs e = absurd (cons≢nil e)
+
+rising : (b k : ℕ) (rows : List {1} Row) → fallsFrom b rows ≡ [] → Applies rows k → b ≤ k
+rising b k (row ∷ rows) e a =
+    let up = no-fall (leb b (row .number)) (b, row .number) (fallsFrom (row .number) rows) e in
+    let low : b ≤ row .number = leb→le b (row .number) (subst (λ x. T x) (sym (up .0)) tt) in
+    ⊎-elim (λ h. omega (arith, low, h .0)) (λ h. omega (arith, low, rising (row .number) k rows (up .1) h)) a
+
+smallest : (b n k : ℕ) (rows : List {1} Row) → fallsFrom b rows ≡ [] → FirstHolding rows n → Applies rows k → n ≤ k
+smallest b n k (row ∷ rows) e (inl h) a =
+    let up = no-fall (leb b (row .number)) (b, row .number) (fallsFrom (row .number) rows) e in
+    ⊎-elim (λ j. omega (arith, h .0, j .0)) (λ j. omega (arith, h .0, rising (row .number) k rows (up .1) j)) a
+smallest b n k (row ∷ rows) e (inr h) a =
+    let up = no-fall (leb b (row .number)) (b, row .number) (fallsFrom (row .number) rows) e in
+    ⊎-elim (λ j. absurd (h .0 (j .1))) (smallest (row .number) n k rows (up .1) (h .1)) a
+
+pub smallest-first : {rows : List {1} Row} {N k : ℕ} → falls rows ≡ [] → Refused rows N → Applies rows k → N ≤ k
+smallest-first {rows} {N} {k} e r = smallest 0 N k rows e (r .first)
+
+-- and there is one verdict
+pub one-verdict : {So : Type 0} {v v′ : Option Bool} → YesOrNo So v → YesOrNo So v′ → v ≡ v′
+one-verdict (inl x) (inl y) = x .0 ∙ sym (y .0)
+one-verdict (inl x) (inr y) = absurd (y .1 (x .1))
+one-verdict (inr x) (inl y) = absurd (x .1 (y .1))
+one-verdict (inr x) (inr y) = x .0 ∙ sym (y .0)

@@ -9,7 +9,7 @@ use Rattle.laws.specs.Text.{bytes}
 use Rattle.meaning.specs.Theory.{Masks, World, masksOf}
 use Rattle.meaning.specs.Rule.{Walk, Test, Rule, Kind, testKind, walkKind, jobKind, ofTest, ofWalk, Opens, text}
 use Rattle.meaning.specs.Leads.{Holds}
-use Rattle.meaning.specs.Reach.{Reached}
+use Rattle.meaning.specs.Reach.{ReachedAs}
 use Rattle.meaning.specs.Normal.{normalRule}
 use Rattle.meaning.specs.Finish.{First, None}
 
@@ -38,22 +38,22 @@ ask = "<-;a00*n!<;*na011"
 
 -- The cases
 
-pub data Verdict : Type 0 where
-  yes no : Verdict
+pub data CaseVerdict : Type 0 where
+  yes no : CaseVerdict
 
-pub data Finished : Type 0 where
-  sequence : List ℕ → Finished
-  refusal : ℕ → Finished
+pub data CaseEnding : Type 0 where
+  sequence : List ℕ → CaseEnding
+  refusal : ℕ → CaseEnding
 
 pub data Case : Type 0 where
   -- log, walk, then, now: set, count, earliest
   reach : List ℕ → String → ℕ → ℕ → ℕ → ℕ → ℕ → Case
   -- log, test, then, now: verdict
-  verdict : List ℕ → String → ℕ → ℕ → Verdict → Case
+  verdict : List ℕ → String → ℕ → ℕ → CaseVerdict → Case
   -- kind, rule: normal form
   form : Kind → String → String → Case
   -- log, job, more: the sequence or the refusal
-  finish : List ℕ → String → ℕ → Finished → Case
+  finish : List ℕ → String → ℕ → CaseEnding → Case
 
 -- "Now is the end unless given. P marks cases to be proved." Where the document names the set alone, count and earliest are the set's.
 abbrev pub cases : List Case
@@ -86,7 +86,7 @@ cases =
 -- What a case says
 
 -- the bytes are one rule of this kind and no other, and this is said of it
-pub record Spelled (kind : Kind) (spelling : List ℕ) (Said : Rule → Type 0) : Type 0 where
+pub record SpelledAs (kind : Kind) (spelling : List ℕ) (Said : Rule → Type 0) : Type 0 where
   pub rule : Rule
   pub opens : Opens kind spelling rule []
   pub only : (other : Rule) → Opens kind spelling other [] → other ≡ rule
@@ -100,22 +100,22 @@ abbrev pub OfTest : (Test → Type 0) → Rule → Type 0
 OfTest Said (ofTest t) = Said t
 OfTest Said (ofWalk w) = ⊥
 
-abbrev pub Told : Verdict → Type 0 → Type 0
-Told yes X = X
-Told no X = ¬ X
+abbrev pub IsSo : CaseVerdict → Type 0 → Type 0
+IsSo yes X = X
+IsSo no X = ¬ X
 
 -- 11: "finish: no such sequence"
-abbrev pub Ends : World → ℕ → Finished → Walk → Type 0
-Ends w more (sequence ending) job = First w job more ending
-Ends w more (refusal number) job = (number ≡ 11) × None w job more
+abbrev pub Finishing : World → ℕ → CaseEnding → Walk → Type 0
+Finishing w more (sequence ending) job = First w job more ending
+Finishing w more (refusal number) job = (number ≡ 11) × None w job more
 
-abbrev pub Says : Case → Type 0
-Says (reach log walk t n set count earliest) =
-    Spelled walkKind (bytes walk) (OfWalk (λ x. Reached (jobWith log) x t n set count earliest))
-Says (verdict log test t n answer) = Spelled testKind (bytes test) (OfTest (λ x. Told answer (Holds (jobWith log) x t n)))
-Says (form kind rule normal) = Spelled kind (bytes rule) (λ x. text (normalRule x) ≡ bytes normal)
-Says (finish log job more ending) = Spelled jobKind (bytes job) (OfWalk (Ends (jobWith log) more ending))
+abbrev pub CaseSays : Case → Type 0
+CaseSays (reach log walk t n set count earliest) =
+    SpelledAs walkKind (bytes walk) (OfWalk (λ x. ReachedAs (jobWith log) x t n set count earliest))
+CaseSays (verdict log test t n answer) = SpelledAs testKind (bytes test) (OfTest (λ x. IsSo answer (Holds (jobWith log) x t n)))
+CaseSays (form kind rule normal) = SpelledAs kind (bytes rule) (λ x. text (normalRule x) ≡ bytes normal)
+CaseSays (finish log job more ending) = SpelledAs jobKind (bytes job) (OfWalk (Finishing (jobWith log) more ending))
 
 abbrev pub AllSay : List Case → Type 0
 AllSay [] = Unit {0}
-AllSay (c ∷ rest) = Says c × AllSay rest
+AllSay (c ∷ rest) = CaseSays c × AllSay rest

@@ -30,5 +30,5 @@ abbrev pub moreLimit : ℕ
 moreLimit = 6
 
 -- "NN is two decimal digits": a number that can be written is below this
-abbrev pub twoDigits : ℕ
-twoDigits = 100
+abbrev pub numberLimit : ℕ
+numberLimit = 100

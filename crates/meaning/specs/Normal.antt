@@ -1,5 +1,5 @@
 -- Document 01, "Normal form of a rule": `-` is pushed inward until none is left.
-use Prim.Native.Nat.{ℕ, zero, suc, _+_}
+use Prim.Native.Nat.{ℕ, suc, _+_}
 use Rattle.meaning.specs.Rule.{Walk, Test, Rule, act, undo, next, prev, seq, alt, star, check, conv, always, fluent, neg, both, diamond, ofTest, ofWalk}
 
 -- normal W is the normal form of W, turned W that of the converse of W: "Converse of `;VW` is the converse of W, then of V; of a choice, the choice of

@@ -1,12 +1,14 @@
 -- Document 01, "Numbers of refusal": when each number applies, which one is given, and the values that go with it.
 use mathlib.Core.Path.{_≡_}
 use mathlib.Core.Logic.{_⊎_}
-use mathlib.Core.Bool.{true}
+use mathlib.Core.Bool.{Bool, true, false, cond}
+use mathlib.Core.Option.{Option, none, some}
 use mathlib.Core.List.{List, [], _∷_}
 use Prim.Native.Nat.{ℕ, _*_, _≤_, _<_}
+use lib.Dec.{leb}
 use lib.ListN.{length, getD}
 use Rattle.laws.specs.Bit.{on}
-use Rattle.meaning.specs.Limits.{fluentLimit, actionLimit, logLimit, places, textLimit, depthLimit, moreLimit}
+use Rattle.meaning.specs.Limits.{fluentLimit, actionLimit, places, textLimit, depthLimit, moreLimit}
 use Rattle.meaning.specs.Theory.{stride}
 use Rattle.meaning.specs.Rule.{Kind, jobKind, Rule, Opens, actionsIn, fluentsIn, depth, backwardIn}
 
@@ -19,19 +21,39 @@ infix 5 _when_
 abbrev pub _when_ : ℕ → Type 0 → Row
 k when x = record { number = k; given = x }
 
--- refusal k applies: a row has this number, and what it says holds
-abbrev pub Applies : List {1} Row → ℕ → Type 0
-Applies [] k = ⊥
-Applies (row ∷ rows) k = ((k ≡ row .number) × row .given) ⊎ Applies rows k
+-- The number given is that of the first row of the call's list that holds: "smallest number first, except that 12 comes before 11" is the order of the list.
+abbrev pub FirstHolding : List {1} Row → ℕ → Type 0
+FirstHolding [] k = ⊥
+FirstHolding (row ∷ rows) k = ((k ≡ row .number) × row .given) ⊎ ((row .given → ⊥) × FirstHolding rows k)
 
--- "smallest number first": the number given
 pub record Refused (rows : List {1} Row) (number : ℕ) : Type 0 where
-  pub applies : Applies rows number
-  pub smallest : (k : ℕ) → k < number → Applies rows k → ⊥
+  pub first : FirstHolding rows number
 
--- no refusal is given
+-- no refusal is given: no row holds
 abbrev pub Accepted : List {1} Row → Type 0
-Accepted rows = (k : ℕ) → Applies rows k → ⊥
+Accepted [] = Unit {0}
+Accepted (row ∷ rows) = (row .given → ⊥) × Accepted rows
+
+-- where a number of the list is followed by a smaller one: nowhere, but for the places that the documents name
+abbrev pub fallsFrom : ℕ → List {1} Row → List (ℕ × ℕ)
+fallsFrom k [] = []
+fallsFrom k (row ∷ rows) = cond (leb k (row .number)) (fallsFrom (row .number) rows) ((k, row .number) ∷ fallsFrom (row .number) rows)
+
+abbrev pub falls : List {1} Row → List (ℕ × ℕ)
+falls = fallsFrom 0
+
+-- What every call answers, in one shape. Refused: the number, and "A refusal has ..", the values that go with it. Accepted: no number, and what is right.
+pub record RefusedWith (rows : List {1} Row) (number : ℕ) (Blank : Type 0) : Type 0 where
+  pub refused : Refused rows number
+  pub blank : Blank
+
+pub record AcceptedWith (rows : List {1} Row) (number : ℕ) (Right : Type 0) : Type 0 where
+  pub none : number ≡ 0
+  pub accepted : Accepted rows
+  pub right : Right
+
+abbrev pub Answered : List {1} Row → ℕ → Type 0 → Type 0 → Type 0
+Answered rows number Blank Right = RefusedWith rows number Blank ⊎ AcceptedWith rows number Right
 
 -- 3: "in a library call, a count or *more* out of range or a mask table of the wrong length".
 abbrev pub BadCounts : ℕ → ℕ → Type 0
@@ -57,14 +79,14 @@ pub record OneLacking (fluents : ℕ) (masks : List ℕ) : Type 0 where
 abbrev pub BadMasks : ℕ → ℕ → List ℕ → Type 0
 BadMasks fluents start masks = NamesLacking fluents start ⊎ OneLacking fluents masks
 
--- 5: "more than 63 actions, or an action the theory lacks"
+-- 5: "more than 63 actions, or an action the theory lacks"; how many are too many is the call's
 pub record UnknownStep (actions : ℕ) (log : List ℕ) : Type 0 where
   pub place : ℕ
   pub there : place < length log
   pub lacking : actions ≤ getD log place 0
 
-abbrev pub BadLog : ℕ → List ℕ → Type 0
-BadLog actions log = (logLimit < length log) ⊎ UnknownStep actions log
+abbrev pub BadLog : ℕ → ℕ → List ℕ → Type 0
+BadLog limit actions log = (limit < length log) ⊎ UnknownStep actions log
 
 -- 6: "a rule is empty, over 255 bytes, or not exactly one rule of its kind"; in reading one rule, "opens with no rule of that kind"
 abbrev pub BadRule : Kind → List ℕ → Type 0
@@ -105,3 +127,10 @@ noEarliest = places
 
 abbrev pub noState : ℕ
 noState = 0
+
+-- a verdict says yes exactly where this is so, and no where it is not; a refusal has none
+abbrev pub noVerdict : Option Bool
+noVerdict = none
+
+abbrev pub YesOrNo : Type 0 → Option Bool → Type 0
+YesOrNo So verdict = ((verdict ≡ some true) × So) ⊎ ((verdict ≡ some false) × ¬ So)

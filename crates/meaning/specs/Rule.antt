@@ -2,8 +2,8 @@
 use mathlib.Core.Path.{_≡_}
 use mathlib.Core.Bool.{Bool, true, false, _||_}
 use mathlib.Core.List.{List, [], _∷_, _++_}
-use Prim.Native.Nat.{ℕ, zero, suc, _+_, _/_, _%_, _≤_, max}
-use Rattle.meaning.specs.Limits.{twoDigits}
+use Prim.Native.Nat.{ℕ, suc, _+_, _/_, _%_, _≤_, max}
+use Rattle.meaning.specs.Limits.{numberLimit}
 
 -- The signs of the two tables, in their order. "A walk's grammar needs tests and a test's grammar needs walks."
 mutual
@@ -32,24 +32,25 @@ mutual
 abbrev pub digits : ℕ → List ℕ
 digits n = (48 + n / 10) ∷ (48 + n % 10) ∷ []
 
+-- Each sign stands as its ASCII number, beside the sign itself.
 unfoldable mutual
   pub walkText : Walk → List ℕ
-  walkText (act a) = 97 ∷ digits a
-  walkText (undo a) = 114 ∷ digits a
-  walkText next = 110 ∷ []
-  walkText prev = 117 ∷ []
-  walkText (seq v w) = 59 ∷ walkText v ++ walkText w
-  walkText (alt v w) = 124 ∷ walkText v ++ walkText w
-  walkText (star w) = 42 ∷ walkText w
-  walkText (check t) = 63 ∷ testText t
-  walkText (conv w) = 45 ∷ walkText w
+  walkText (act a) = 97 ∷ digits a  -- a
+  walkText (undo a) = 114 ∷ digits a  -- r
+  walkText next = 110 ∷ []  -- n
+  walkText prev = 117 ∷ []  -- u
+  walkText (seq v w) = 59 ∷ walkText v ++ walkText w  -- ;
+  walkText (alt v w) = 124 ∷ walkText v ++ walkText w  -- |
+  walkText (star w) = 42 ∷ walkText w  -- *
+  walkText (check t) = 63 ∷ testText t  -- ?
+  walkText (conv w) = 45 ∷ walkText w  -- -
 
   pub testText : Test → List ℕ
-  testText always = 49 ∷ []
-  testText (fluent i) = 102 ∷ digits i
-  testText (neg t) = 33 ∷ testText t
-  testText (both t u) = 38 ∷ testText t ++ testText u
-  testText (diamond w t) = 60 ∷ walkText w ++ testText t
+  testText always = 49 ∷ []  -- 1
+  testText (fluent i) = 102 ∷ digits i  -- f
+  testText (neg t) = 33 ∷ testText t  -- !
+  testText (both t u) = 38 ∷ testText t ++ testText u  -- &
+  testText (diamond w t) = 60 ∷ walkText w ++ testText t  -- <
 
 -- "Depth: a leaf is 1, any other sign is one more than its deepest part."
 unfoldable mutual
@@ -157,5 +158,5 @@ backwardIn (ofWalk w) = backward w
 pub record Opens (kind : Kind) (bytes : List ℕ) (rule : Rule) (rest : List ℕ) : Type 0 where
   pub fits : Fits kind rule
   pub spells : bytes ≡ text rule ++ rest
-  pub shortActions : actionsIn rule ≤ twoDigits
-  pub shortFluents : fluentsIn rule ≤ twoDigits
+  pub shortActions : actionsIn rule ≤ numberLimit
+  pub shortFluents : fluentsIn rule ≤ numberLimit

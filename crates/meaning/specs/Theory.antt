@@ -1,8 +1,8 @@
 -- Document 01, "Facts, actions, log": states, masks, possible, effects, and the state at a position.
 use mathlib.Core.Path.{_≡_}
-use mathlib.Core.Bool.{Bool, true, false, not, _&&_, _||_}
+use mathlib.Core.Bool.{true, false, not, _&&_, _||_}
 use mathlib.Core.List.{List, [], _∷_}
-use mathlib.Core.Option.{Option, some}
+use mathlib.Core.Option.{Option}
 use Prim.Native.Nat.{ℕ}
 use lib.ListN.{take, getElem?}
 use Rattle.laws.specs.Bit.{on, gather}

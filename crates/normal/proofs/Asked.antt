@@ -1,21 +1,25 @@
 -- What the rewriter asks of a part, sign by sign: the part stands where it is looked for, there is a number for each place that it may be written to, and it
 -- begins behind the sign. Knows no code.
-use mathlib.Core.Path.{_≡_, refl}
-use mathlib.Core.Logic.{_⊎_, inl, inr}
+use mathlib.Core.Path.{_≡_, refl, sym, ap, subst, subst⁻¹}
 use mathlib.Core.Bool.{Bool, true, false}
 use mathlib.Core.List.{List}
-use Prim.Native.Nat.{ℕ, suc, _+_, _^_, _≤_, _<_}
+use Prim.Native.Nat.{ℕ, _+_, _^_, _≤_, _<_}
 use native.Mathlib.Omega.{arith}
 use lib.ListN.{length, getD, length-append}
+use Rattle.meaning.specs.Limits.{textLimit}
 use Rattle.meaning.specs.Rule.{Walk, Test, ofTest, ofWalk, walkText, testText, other}
 use Rattle.meaning.specs.Normal.{normalTest}
 use Rattle.meaning.proofs.Rewriting.{normal-figures, turned-figures, test-figures}
+use Rattle.rule.specs.declared.signs.Sign.the-variants.{NamedStep, OverWalk, OverTest, TwoWalks, NamedFluent, Denial, TwoTests, WalkThenTest}
+use Rattle.rule.specs.Signs.{signOf}
 use Rattle.rule.specs.Standing.{Stands}
-use Rattle.normal.specs.Place.{RuleHere, Ends, WalkHere, TestHere, NumberHere, facing, WalkWritten, TestWritten}
+use Rattle.rule.proofs.SignTable.{SignIs, sign-is, act-sign, undo-sign, seq-sign, alt-sign, star-sign, conv-sign, check-sign, fluent-sign, neg-sign, both-sign, diamond-sign}
 use Rattle.rule.proofs.Spread.{Spread, spread, some-text, inside, within}
-use Rattle.rule.proofs.Spread.{act-at, undo-at, seq-at, star-at, check-at, conv-at, always-at, fluent-at, neg-at, both-at, diamond-at}
-use Rattle.normal.proofs.Arms.{TwoWalks, in-seq, in-alt, NoneOther, two-walks, moved}
-use Rattle.normal.proofs.TestArms.{NoneBut}
+use Rattle.rule.proofs.Spread.{act-at, undo-at, seq-at, alt-at, star-at, check-at, conv-at, fluent-at, neg-at, both-at, diamond-at}
+use Rattle.normal.specs.declared.rewrite.Parts.{Parts}
+use Rattle.normal.specs.Place.{WalkToWrite, TestToWrite, NumberHere, facing, WalkWritten, TestWritten}
+use Rattle.normal.specs.Sign.{inOrder}
+use Rattle.normal.proofs.Standing.{behind}
 
 -- no rewriting makes a walk or a test longer
 facing-short : (back : Bool) (x : Walk) → length (walkText (facing back x)) ≤ length (walkText x)
@@ -25,165 +29,157 @@ facing-short true x = omega (arith, turned-figures other other x .shorter)
 test-short : (t : Test) → length (testText (normalTest t)) ≤ length (testText t)
 test-short t = omega (arith, test-figures other other t .shorter)
 
--- where the text is read: within it, so that what is left falls
-pub walk-in : {bytes : List ℕ} {at to : ℕ} → WalkHere bytes at to → at < length bytes
-walk-in h = within (h .stands)
+-- where a walk is rewritten
+module _ {bytes ends : List ℕ} {at to : ℕ} (h : WalkToWrite bytes ends at to) where
+  -- the text is read within it, the sign has a place in the output, and the part behind it one in the table
+  pub walk-in : at < length bytes
+  walk-in = within (h .stands)
 
-pub test-in : {bytes : List ℕ} {at to : ℕ} → TestHere bytes at to → at < length bytes
-test-in h = within (h .stands)
+  pub walk-room : to + 1 < 2 ^ 64
+  walk-room = omega (arith, h .low, some-text (ofWalk (h .walk)))
 
--- and the sign has a place in the output
-pub walk-room : {bytes : List ℕ} {at to : ℕ} → WalkHere bytes at to → to + 1 < 2 ^ 64
-walk-room h = omega (arith, h .low, some-text (ofWalk (h .walk)))
+  pub walk-next : at + 1 ≤ textLimit
+  walk-next = omega (arith, walk-in, h .marked .short)
 
-pub test-room : {bytes : List ℕ} {at to : ℕ} → TestHere bytes at to → to + 1 < 2 ^ 64
-test-room h = omega (arith, h .low, some-text (ofTest (h .test)))
-
-module _ {bytes : List ℕ} {at to : ℕ} (h : WalkHere bytes at to) where
-  pub conv-here : getD bytes at 0 ≡ 45 → WalkHere bytes (at + 1) to
+  pub conv-here : getD bytes at 0 ≡ 45 → WalkToWrite bytes ends (at + 1) to
   unfolding walkText
   conv-here e = go (spread (h .stands) 45 e) (h .low)
     where
-      go : {x : Walk} → Spread bytes at 45 (ofWalk x) → to + length (walkText x) < 2 ^ 64 → WalkHere bytes (at + 1) to
-      go (conv-at w s) low = record { walk = w; stands = s; low = omega arith }
+      go : {x : Walk} → Spread bytes at 45 (ofWalk x) → to + length (walkText x) < 2 ^ 64 → WalkToWrite bytes ends (at + 1) to
+      go (conv-at w s) low = record { marked = h .marked; walk = w; stands = s; low = omega arith }
 
-  pub star-here : getD bytes at 0 ≡ 42 → WalkHere bytes (at + 1) (to + 1)
+  pub star-here : OverWalk ≡ signOf (getD bytes at 0) → (getD bytes at 0 ≡ 45 → ⊥) → WalkToWrite bytes ends (at + 1) (to + 1)
   unfolding walkText
-  star-here e = go (spread (h .stands) 42 e) (h .low)
+  star-here s n = go (sign-is s) refl (spread (h .stands) _ refl) (h .low)
     where
-      go : {x : Walk} → Spread bytes at 42 (ofWalk x) → to + length (walkText x) < 2 ^ 64 → WalkHere bytes (at + 1) (to + 1)
-      go (star-at w s) low = record { walk = w; stands = s; low = omega arith }
+      go : {b : ℕ} {x : Walk} → SignIs b OverWalk → getD bytes at 0 ≡ b → Spread bytes at b (ofWalk x) → to + length (walkText x) < 2 ^ 64 → WalkToWrite bytes ends (at + 1) (to + 1)
+      go star-sign e (star-at w s) low = record { marked = h .marked; walk = w; stands = s; low = omega arith }
+      go conv-sign e (conv-at w s) low = absurd (n e)
 
-  pub check-here : getD bytes at 0 ≡ 63 → TestHere bytes (at + 1) (to + 1)
+  pub check-here : OverTest ≡ signOf (getD bytes at 0) → TestToWrite bytes ends (at + 1) (to + 1)
   unfolding walkText
-  check-here e = go (spread (h .stands) 63 e) (h .low)
+  check-here s = go (sign-is s) (spread (h .stands) _ refl) (h .low)
     where
-      go : {x : Walk} → Spread bytes at 63 (ofWalk x) → to + length (walkText x) < 2 ^ 64 → TestHere bytes (at + 1) (to + 1)
-      go (check-at t s) low = record { test = t; stands = s; low = omega arith }
+      go : {b : ℕ} {x : Walk} → SignIs b OverTest → Spread bytes at b (ofWalk x) → to + length (walkText x) < 2 ^ 64 → TestToWrite bytes ends (at + 1) (to + 1)
+      go check-sign (check-at t s) low = record { marked = h .marked; test = t; stands = s; low = omega arith }
 
-  pub named-here : (getD bytes at 0 ≡ 97) ⊎ (getD bytes at 0 ≡ 114) → NumberHere bytes (at + 1) (to + 1)
+  pub named-here : NamedStep ≡ signOf (getD bytes at 0) → NumberHere bytes (at + 1) (to + 1)
   unfolding walkText
-  named-here (inl e) = go (spread (h .stands) 97 e) (h .low) (inside (h .stands))
+  named-here s = go (sign-is s) (spread (h .stands) _ refl) (h .low) (inside (h .stands))
     where
-      go : {x : Walk} → Spread bytes at 97 (ofWalk x) → to + length (walkText x) < 2 ^ 64 → at + length (walkText x) ≤ length bytes → NumberHere bytes (at + 1) (to + 1)
-      go (act-at a d) low i = omega arith
-  named-here (inr e) = go (spread (h .stands) 114 e) (h .low) (inside (h .stands))
-    where
-      go : {x : Walk} → Spread bytes at 114 (ofWalk x) → to + length (walkText x) < 2 ^ 64 → at + length (walkText x) ≤ length bytes → NumberHere bytes (at + 1) (to + 1)
-      go (undo-at a d) low i = omega arith
+      go : {b : ℕ} {x : Walk} → SignIs b NamedStep → Spread bytes at b (ofWalk x) → to + length (walkText x) < 2 ^ 64 → at + length (walkText x) ≤ length bytes → NumberHere bytes (at + 1) (to + 1)
+      go act-sign (act-at a d) low i = record { within = omega arith; low = omega arith }
+      go undo-sign (undo-at a d) low i = record { within = omega arith; low = omega arith }
 
-  -- of two parts in their order the first, and the second, which begins behind it
-  pub first-here : NoneOther (getD bytes at 0) → WalkHere bytes (at + 1) (to + 1)
-  unfolding walkText
-  first-here n = go (two-walks n (spread (h .stands) _ refl)) (h .low)
-    where
-      go : {b : ℕ} {x : Walk} → TwoWalks bytes at b x → to + length (walkText x) < 2 ^ 64 → WalkHere bytes (at + 1) (to + 1)
-      go (in-seq v w s t) low = record { walk = v; stands = s; low = omega (arith, length-append (walkText v) (walkText w)) }
-      go (in-alt v w s t) low = record { walk = v; stands = s; low = omega (arith, length-append (walkText v) (walkText w)) }
+  -- Of two parts, in whichever order: the one that is written first, and the other, which is written behind it.
+  module _ (p : Parts) (exchanged : Bool) (order : p ≡ inOrder exchanged (at + 1) (getD ends (at + 1) 0)) where
+    record Both : Type 0 where
+      one : Walk
+      other : Walk
+      there : Stands bytes (p .first) (ofWalk one)
+      beside : Stands bytes (p .second) (ofWalk other)
+      past : at < p .first
+      past′ : at < p .second
+      low : to + 1 + (length (walkText one) + length (walkText other)) < 2 ^ 64
 
-  pub second-here : (back : Bool) {at₁ to₁ : ℕ} {mid after : List ℕ}
-      → NoneOther (getD bytes at 0)
-      → WalkWritten bytes back (at + 1) (to + 1) mid at₁ to₁ after
-      → WalkHere bytes at₁ to₁ × (at < at₁)
-  unfolding walkText
-  second-here back {at₁} {to₁} {mid} {after} n i = go (two-walks n (spread (h .stands) _ refl)) (h .low)
-    where
-      go : {b : ℕ} {x : Walk} → TwoWalks bytes at b x → to + length (walkText x) < 2 ^ 64 → WalkHere bytes at₁ to₁ × (at < at₁)
-      go (in-seq v w s t) low = let k = i .each v s in (
-        record { walk = w; stands = moved (k .read) t; low = omega (arith, length-append (walkText v) (walkText w), k .wrote, facing-short back v) },
-        omega (arith, k .read),
-      )
-      go (in-alt v w s t) low = let k = i .each v s in (
-        record { walk = w; stands = moved (k .read) t; low = omega (arith, length-append (walkText v) (walkText w), k .wrote, facing-short back v) },
-        omega (arith, k .read),
-      )
+    both : (v w : Walk) → Stands bytes (at + 1) (ofWalk v) → Stands bytes (at + 1 + length (walkText v)) (ofWalk w) → to + 1 + (length (walkText v) + length (walkText w)) < 2 ^ 64
+        → (t : Bool) → p ≡ inOrder t (at + 1) (getD ends (at + 1) 0) → Both
+    both v w s t low false o = record {
+      one = v;
+      other = w;
+      there = subst (λ (q : Parts). Stands bytes (q .first) (ofWalk v)) (sym o) s;
+      beside = subst (λ (q : Parts). Stands bytes (q .second) (ofWalk w)) (sym o) (behind (h .marked .table) s t);
+      past = omega (arith, ap (λ (q : Parts). q .first) o);
+      past′ = omega (arith, ap (λ (q : Parts). q .second) o, h .marked .table .each (at + 1) (ofWalk v) s);
+      low = low;
+    }
+    both v w s t low true o = record {
+      one = w;
+      other = v;
+      there = subst (λ (q : Parts). Stands bytes (q .first) (ofWalk w)) (sym o) (behind (h .marked .table) s t);
+      beside = subst (λ (q : Parts). Stands bytes (q .second) (ofWalk v)) (sym o) s;
+      past = omega (arith, ap (λ (q : Parts). q .first) o, h .marked .table .each (at + 1) (ofWalk v) s);
+      past′ = omega (arith, ap (λ (q : Parts). q .second) o);
+      low = omega arith;
+    }
 
-  -- of a sequence under a converse: its first part, which is passed over, the second behind it, and then the first
-  pub skipped-here : getD bytes at 0 ≡ 59 → RuleHere bytes (at + 1)
-  skipped-here e = go (spread (h .stands) 59 e)
-    where
-      go : {x : Walk} → Spread bytes at 59 (ofWalk x) → RuleHere bytes (at + 1)
-      go (seq-at v w s t) = record { rule = ofWalk v; stands = s }
-
-  module _ {middle : ℕ} (e : getD bytes at 0 ≡ 59) (m : Ends bytes (at + 1) middle) where
-    pub behind-here : WalkHere bytes middle (to + 1) × (at < middle)
+    both-here : TwoWalks ≡ signOf (getD bytes at 0) → Both
     unfolding walkText
-    behind-here = go (spread (h .stands) 59 e) (h .low)
+    both-here s = go (sign-is s) (spread (h .stands) _ refl) (h .low)
       where
-        go : {x : Walk} → Spread bytes at 59 (ofWalk x) → to + length (walkText x) < 2 ^ 64 → WalkHere bytes middle (to + 1) × (at < middle)
-        go (seq-at v w s t) low = let k = m .each (ofWalk v) s in (
-          record { walk = w; stands = moved k t; low = omega (arith, length-append (walkText v) (walkText w)) },
-          omega (arith, k),
-        )
+        go : {b : ℕ} {x : Walk} → SignIs b TwoWalks → Spread bytes at b (ofWalk x) → to + length (walkText x) < 2 ^ 64 → Both
+        go seq-sign (seq-at v w s t) low = both v w s t (omega (arith, length-append (walkText v) (walkText w))) exchanged order
+        go alt-sign (alt-at v w s t) low = both v w s t (omega (arith, length-append (walkText v) (walkText w))) exchanged order
 
-    pub before-here : (back : Bool) {at₁ to₁ : ℕ} {mid after : List ℕ} → WalkWritten bytes back middle (to + 1) mid at₁ to₁ after → WalkHere bytes (at + 1) to₁
-    unfolding walkText
-    before-here back {at₁} {to₁} {mid} {after} i = go (spread (h .stands) 59 e) (h .low)
-      where
-        go : {x : Walk} → Spread bytes at 59 (ofWalk x) → to + length (walkText x) < 2 ^ 64 → WalkHere bytes (at + 1) to₁
-        go (seq-at v w s t) low =
-            let k = i .each w (moved (m .each (ofWalk v) s) t) in
-            record { walk = v; stands = s; low = omega (arith, length-append (walkText v) (walkText w), k .wrote, facing-short back w) }
+    pub first-here : TwoWalks ≡ signOf (getD bytes at 0) → WalkToWrite bytes ends (p .first) (to + 1) × (at < p .first)
+    first-here s = let b = both-here s in (record { marked = h .marked; walk = b .one; stands = b .there; low = omega (arith, b .low) }, b .past)
 
-module _ {bytes : List ℕ} {at to : ℕ} (h : TestHere bytes at to) where
-  pub fluent-here : getD bytes at 0 ≡ 102 → NumberHere bytes (at + 1) (to + 1)
+    pub second-here : (back : Bool) {to₁ : ℕ} {mid after : List ℕ} → TwoWalks ≡ signOf (getD bytes at 0) → WalkWritten bytes back (p .first) (to + 1) mid to₁ after
+        → WalkToWrite bytes ends (p .second) to₁ × (at < p .second)
+    second-here back s i =
+        let b = both-here s in
+        let k = i .each (b .one) (b .there) in
+        (record { marked = h .marked; walk = b .other; stands = b .beside; low = omega (arith, b .low, k .wrote, facing-short back (b .one)) }, b .past′)
+
+-- where a test is rewritten
+module _ {bytes ends : List ℕ} {at to : ℕ} (h : TestToWrite bytes ends at to) where
+  pub test-in : at < length bytes
+  test-in = within (h .stands)
+
+  pub test-room : to + 1 < 2 ^ 64
+  test-room = omega (arith, h .low, some-text (ofTest (h .test)))
+
+  pub test-next : at + 1 ≤ textLimit
+  test-next = omega (arith, test-in, h .marked .short)
+
+  pub fluent-here : NamedFluent ≡ signOf (getD bytes at 0) → NumberHere bytes (at + 1) (to + 1)
   unfolding walkText
-  fluent-here e = go (spread (h .stands) 102 e) (h .low) (inside (h .stands))
+  fluent-here s = go (sign-is s) (spread (h .stands) _ refl) (h .low) (inside (h .stands))
     where
-      go : {t : Test} → Spread bytes at 102 (ofTest t) → to + length (testText t) < 2 ^ 64 → at + length (testText t) ≤ length bytes → NumberHere bytes (at + 1) (to + 1)
-      go (fluent-at i d) low k = omega arith
+      go : {b : ℕ} {t : Test} → SignIs b NamedFluent → Spread bytes at b (ofTest t) → to + length (testText t) < 2 ^ 64 → at + length (testText t) ≤ length bytes → NumberHere bytes (at + 1) (to + 1)
+      go fluent-sign (fluent-at i d) low k = record { within = omega arith; low = omega arith }
 
-  pub neg-here : getD bytes at 0 ≡ 33 → TestHere bytes (at + 1) (to + 1)
+  pub denial-here : Denial ≡ signOf (getD bytes at 0) → TestToWrite bytes ends (at + 1) (to + 1)
   unfolding walkText
-  neg-here e = go (spread (h .stands) 33 e) (h .low)
+  denial-here s = go (sign-is s) (spread (h .stands) _ refl) (h .low)
     where
-      go : {t : Test} → Spread bytes at 33 (ofTest t) → to + length (testText t) < 2 ^ 64 → TestHere bytes (at + 1) (to + 1)
-      go (neg-at t s) low = record { test = t; stands = s; low = omega arith }
+      go : {b : ℕ} {t : Test} → SignIs b Denial → Spread bytes at b (ofTest t) → to + length (testText t) < 2 ^ 64 → TestToWrite bytes ends (at + 1) (to + 1)
+      go neg-sign (neg-at t s) low = record { marked = h .marked; test = t; stands = s; low = omega arith }
 
-  pub both-here : getD bytes at 0 ≡ 38 → TestHere bytes (at + 1) (to + 1)
+  -- `&TU`
+  pub both-first : TwoTests ≡ signOf (getD bytes at 0) → TestToWrite bytes ends (at + 1) (to + 1)
   unfolding walkText
-  both-here e = go (spread (h .stands) 38 e) (h .low)
+  both-first s = go (sign-is s) (spread (h .stands) _ refl) (h .low)
     where
-      go : {t : Test} → Spread bytes at 38 (ofTest t) → to + length (testText t) < 2 ^ 64 → TestHere bytes (at + 1) (to + 1)
-      go (both-at t u p q) low = record { test = t; stands = p; low = omega (arith, length-append (testText t) (testText u)) }
+      go : {b : ℕ} {t : Test} → SignIs b TwoTests → Spread bytes at b (ofTest t) → to + length (testText t) < 2 ^ 64 → TestToWrite bytes ends (at + 1) (to + 1)
+      go both-sign (both-at t u p q) low = record { marked = h .marked; test = t; stands = p; low = omega (arith, length-append (testText t) (testText u)) }
 
-  pub both-second : {at₁ to₁ : ℕ} {mid after : List ℕ}
-      → getD bytes at 0 ≡ 38
-      → TestWritten bytes (at + 1) (to + 1) mid at₁ to₁ after
-      → TestHere bytes at₁ to₁ × (at < at₁)
+  pub both-second : {middle to₁ : ℕ} {mid after : List ℕ} → TwoTests ≡ signOf (getD bytes at 0) → middle ≡ getD ends (at + 1) 0 → TestWritten bytes (at + 1) (to + 1) mid to₁ after
+      → TestToWrite bytes ends middle to₁ × (at < middle)
   unfolding walkText
-  both-second {at₁} {to₁} e i = go (spread (h .stands) 38 e) (h .low)
+  both-second {middle} {to₁} s m i = subst⁻¹ (λ (k : ℕ). TestToWrite bytes ends k to₁ × (at < k)) m (go (sign-is s) (spread (h .stands) _ refl) (h .low))
     where
-      go : {t : Test} → Spread bytes at 38 (ofTest t) → to + length (testText t) < 2 ^ 64 → TestHere bytes at₁ to₁ × (at < at₁)
-      go (both-at t u p q) low = let k = i .each t p in (
-        record { test = u; stands = moved (k .read) q; low = omega (arith, length-append (testText t) (testText u), k .wrote, test-short t) },
-        omega (arith, k .read),
+      go : {b : ℕ} {t : Test} → SignIs b TwoTests → Spread bytes at b (ofTest t) → to + length (testText t) < 2 ^ 64 → TestToWrite bytes ends (getD ends (at + 1) 0) to₁ × (at < getD ends (at + 1) 0)
+      go both-sign (both-at t u p q) low = let k = i .each t p in (
+        record { marked = h .marked; test = u; stands = behind (h .marked .table) p q; low = omega (arith, length-append (testText t) (testText u), k .wrote, test-short t) },
+        omega (arith, h .marked .table .each (at + 1) (ofTest t) p),
       )
 
   -- `<WT`
-  module _ (n : NoneBut (getD bytes at 0)) where
-    diamond-parts : (w : Walk) × (t : Test) × Stands bytes (at + 1) (ofWalk w) × Stands bytes (at + 1 + length (walkText w)) (ofTest t) × (to + suc (length (walkText w) + length (testText t)) < 2 ^ 64)
-    unfolding walkText
-    diamond-parts = go n (spread (h .stands) _ refl) (h .low)
-      where
-        go : {b : ℕ} {t : Test}
-            → NoneBut b
-            → Spread bytes at b (ofTest t)
-            → to + length (testText t) < 2 ^ 64
-            → (w : Walk) × (t : Test) × Stands bytes (at + 1) (ofWalk w) × Stands bytes (at + 1 + length (walkText w)) (ofTest t) × (to + suc (length (walkText w) + length (testText t)) < 2 ^ 64)
-        go n always-at low = absurd (n .always refl)
-        go n (fluent-at i d) low = absurd (n .fluent refl)
-        go n (neg-at t s) low = absurd (n .neg refl)
-        go n (both-at t u p q) low = absurd (n .both refl)
-        go n (diamond-at w t p q) low = (w, t, p, q, omega (arith, length-append (walkText w) (testText t)))
+  pub diamond-first : WalkThenTest ≡ signOf (getD bytes at 0) → WalkToWrite bytes ends (at + 1) (to + 1)
+  unfolding walkText
+  diamond-first s = go (sign-is s) (spread (h .stands) _ refl) (h .low)
+    where
+      go : {b : ℕ} {t : Test} → SignIs b WalkThenTest → Spread bytes at b (ofTest t) → to + length (testText t) < 2 ^ 64 → WalkToWrite bytes ends (at + 1) (to + 1)
+      go diamond-sign (diamond-at w t p q) low = record { marked = h .marked; walk = w; stands = p; low = omega (arith, length-append (walkText w) (testText t)) }
 
-    pub diamond-here : WalkHere bytes (at + 1) (to + 1)
-    diamond-here = let (w, t, p, q, low) = diamond-parts in record { walk = w; stands = p; low = omega arith }
-
-    pub diamond-second : {at₁ to₁ : ℕ} {mid after : List ℕ}
-        → WalkWritten bytes false (at + 1) (to + 1) mid at₁ to₁ after
-        → TestHere bytes at₁ to₁ × (at < at₁)
-    diamond-second i =
-        let (w, t, p, q, low) = diamond-parts in
-        let k = i .each w p in
-        (record { test = t; stands = moved (k .read) q; low = omega (arith, k .wrote, facing-short false w) }, omega (arith, k .read))
+  pub diamond-second : {middle to₁ : ℕ} {mid after : List ℕ} → WalkThenTest ≡ signOf (getD bytes at 0) → middle ≡ getD ends (at + 1) 0 → WalkWritten bytes false (at + 1) (to + 1) mid to₁ after
+      → TestToWrite bytes ends middle to₁ × (at < middle)
+  unfolding walkText
+  diamond-second {middle} {to₁} s m i = subst⁻¹ (λ (k : ℕ). TestToWrite bytes ends k to₁ × (at < k)) m (go (sign-is s) (spread (h .stands) _ refl) (h .low))
+    where
+      go : {b : ℕ} {t : Test} → SignIs b WalkThenTest → Spread bytes at b (ofTest t) → to + length (testText t) < 2 ^ 64 → TestToWrite bytes ends (getD ends (at + 1) 0) to₁ × (at < getD ends (at + 1) 0)
+      go diamond-sign (diamond-at w t p q) low = let k = i .each w p in (
+        record { marked = h .marked; test = t; stands = behind (h .marked .table) p q; low = omega (arith, length-append (walkText w) (testText t), k .wrote, facing-short false w) },
+        omega (arith, h .marked .table .each (at + 1) (ofWalk w) p),
+      )

@@ -1,6 +1,6 @@
 pub mod Signs
-pub mod Skipping
 pub mod Writing
+pub mod Standing
 pub mod Arms
 pub mod TestArms
 pub mod Asked

@@ -1,20 +1,13 @@
--- The signs: a byte that is none of a list's, and what each sign of a walk is rewritten to. Opens the normal form; knows no code.
+-- The signs: what each sign of a walk is rewritten to. Opens the normal form; knows no code.
 use mathlib.Core.Path.{_≡_, refl, sym}
-use mathlib.Core.Logic.{inl, inr}
 use mathlib.Core.Bool.{Bool, true, false, not, false≢true}
-use mathlib.Core.List.{List, [], _∷_, _++_}
+use mathlib.Core.List.{[], _∷_, _++_}
 use Prim.Native.Nat.{ℕ}
-use types.Run.{OneOf}
 use borrow.Author.Tests.{ne-eqb}
 use Rattle.meaning.specs.Rule.{Walk, Test, act, undo, next, prev, seq, alt, star, check, conv, walkText, testText, digits}
 use Rattle.meaning.specs.Normal.{normal, normalTest}
 use Rattle.normal.specs.Place.{facing}
-use Rattle.normal.specs.Sign.{oneOf, turnedSign, facingSign}
-
-pub none-of : (cs : List ℕ) (b : ℕ) → (OneOf cs b → ⊥) → oneOf cs b ≡ false
-none-of [] b n = refl
-none-of (c ∷ []) b n = simp (ne-eqb b c n)
-none-of (c ∷ (d ∷ cs)) b n = simp (ne-eqb b c (λ e. n (inl e)), none-of (d ∷ cs) b (λ e. n (inr e)))
+use Rattle.normal.specs.Sign.{turnedSign, facingSign}
 
 pub turned-other : (b : ℕ) → (b ≡ 97 → ⊥) → (b ≡ 114 → ⊥) → (b ≡ 110 → ⊥) → (b ≡ 117 → ⊥) → turnedSign b ≡ b
 turned-other b a r n u = simp (ne-eqb b 97 a, ne-eqb b 114 r, ne-eqb b 110 n, ne-eqb b 117 u)

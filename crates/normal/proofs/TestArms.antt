@@ -1,84 +1,70 @@
 -- The rewriter's arms for the signs of a test: what the parts' writing makes of the whole sign's. A test's walks are rewritten under no converse. Opens the
 -- normal form; knows no code.
-use mathlib.Core.Path.{_≡_, refl, ap, _∙_}
+use mathlib.Core.Path.{_≡_, refl, ap, subst⁻¹, _∙_}
 use mathlib.Core.Bool.{false}
 use mathlib.Core.List.{List}
 use Prim.Native.Nat.{ℕ, _+_}
 use lib.ListN.{getD, set}
 use Rattle.meaning.specs.Rule.{Test, ofTest, walkText}
 use Rattle.meaning.specs.Normal.{normal, normalTest}
-use Rattle.normal.specs.Place.{Written, WalkWritten, TestWritten, NumberWritten}
+use Rattle.rule.specs.declared.signs.Sign.the-variants.{Constant, NamedFluent, Denial, TwoTests, WalkThenTest}
+use Rattle.rule.specs.Signs.{signOf}
+use Rattle.rule.specs.Standing.{Stands, Ends}
+use Rattle.rule.proofs.SignTable.{SignIs, sign-is, always-sign, fluent-sign, neg-sign, both-sign, diamond-sign}
 use Rattle.rule.proofs.Spread.{Spread, spread, always-at, fluent-at, neg-at, both-at, diamond-at}
+use Rattle.normal.specs.Place.{Written, WalkWritten, TestWritten, NumberWritten}
+use Rattle.normal.proofs.Arms.{SignWritten}
+use Rattle.normal.proofs.Standing.{behind}
 use Rattle.normal.proofs.Writing.{leaf, named, one, two}
-use Rattle.normal.proofs.Arms.{SignWritten, moved}
-
--- the byte is no sign of a test but `<`
-pub record NoneBut (b : ℕ) : Type 0 where
-  pub always : b ≡ 49 → ⊥
-  pub fluent : b ≡ 102 → ⊥
-  pub neg : b ≡ 33 → ⊥
-  pub both : b ≡ 38 → ⊥
 
 module _ {bytes : List ℕ} {at to : ℕ} {before mid : List ℕ} (sign : SignWritten bytes false at to before mid) where
   seen : {b : ℕ} → getD bytes at 0 ≡ b → mid ≡ set before to b
   seen e = sign .put ∙ ap (set before to) e
 
-  abbrev Done : ℕ → ℕ → List ℕ → Test → Type 0
-  Done at₁ to₁ after t = Written (ofTest t) (ofTest (normalTest t)) at to before at₁ to₁ after
+  abbrev Done : ℕ → List ℕ → Test → Type 0
+  Done to₁ after t = Written (ofTest (normalTest t)) to before to₁ after
 
   -- `1`
-  pub always-written : getD bytes at 0 ≡ 49 → TestWritten bytes at to before (at + 1) (to + 1) mid
+  pub constant-written : Constant ≡ signOf (getD bytes at 0) → TestWritten bytes at to before (to + 1) mid
   unfolding normal walkText
-  always-written e = record { each = λ t s. go (spread s 49 e) }
+  constant-written s = record { each = λ t h. go (sign-is s) refl (spread h _ refl) }
     where
-      go : {t : Test} → Spread bytes at 49 (ofTest t) → Done (at + 1) (to + 1) mid t
-      go always-at = leaf (seen e) refl refl
+      go : {b : ℕ} {t : Test} → SignIs b Constant → getD bytes at 0 ≡ b → Spread bytes at b (ofTest t) → Done (to + 1) mid t
+      go always-sign e always-at = leaf (seen e) refl
 
-  module _ {at₁ to₁ : ℕ} {after : List ℕ} where
+  module _ {to₁ : ℕ} {after : List ℕ} where
     -- `fNN`
-    pub fluent-written :
-        getD bytes at 0 ≡ 102
-        → NumberWritten bytes (at + 1) (to + 1) mid at₁ to₁ after
-        → TestWritten bytes at to before at₁ to₁ after
+    pub fluent-written : NamedFluent ≡ signOf (getD bytes at 0) → NumberWritten bytes (at + 1) (to + 1) mid to₁ after → TestWritten bytes at to before to₁ after
     unfolding normal walkText
-    fluent-written e h = record { each = λ t s. go (spread s 102 e) }
+    fluent-written s h = record { each = λ t k. go (sign-is s) refl (spread k _ refl) }
       where
-        go : {t : Test} → Spread bytes at 102 (ofTest t) → Done at₁ to₁ after t
-        go (fluent-at i d) = named (seen e) d h refl refl
+        go : {b : ℕ} {t : Test} → SignIs b NamedFluent → getD bytes at 0 ≡ b → Spread bytes at b (ofTest t) → Done to₁ after t
+        go fluent-sign e (fluent-at i d) = named (seen e) i d h refl
 
     -- `!T`
-    pub neg-written : getD bytes at 0 ≡ 33 → TestWritten bytes (at + 1) (to + 1) mid at₁ to₁ after → TestWritten bytes at to before at₁ to₁ after
+    pub denial-written : Denial ≡ signOf (getD bytes at 0) → TestWritten bytes (at + 1) (to + 1) mid to₁ after → TestWritten bytes at to before to₁ after
     unfolding normal walkText
-    neg-written e h = record { each = λ t s. go (spread s 33 e) }
+    denial-written s h = record { each = λ t k. go (sign-is s) refl (spread k _ refl) }
       where
-        go : {t : Test} → Spread bytes at 33 (ofTest t) → Done at₁ to₁ after t
-        go (neg-at t s) = one (seen e) (h .each t s) refl refl
+        go : {b : ℕ} {t : Test} → SignIs b Denial → getD bytes at 0 ≡ b → Spread bytes at b (ofTest t) → Done to₁ after t
+        go neg-sign e (neg-at t k) = one (seen e) (h .each t k) refl
 
-    module _ {at₂ to₂ : ℕ} {last : List ℕ} where
+    module _ {ends : List ℕ} (table : Ends bytes ends) {middle to₂ : ℕ} {last : List ℕ} (m : middle ≡ getD ends (at + 1) 0) (i : TestWritten bytes middle to₁ after to₂ last) where
+      second : (u : Test) → Stands bytes (getD ends (at + 1) 0) (ofTest u) → Written (ofTest (normalTest u)) to₁ after to₂ last
+      second u s = i .each u (subst⁻¹ (λ (k : ℕ). Stands bytes k (ofTest u)) m s)
+
       -- `&TU`
-      pub both-written :
-          getD bytes at 0 ≡ 38
-          → TestWritten bytes (at + 1) (to + 1) mid at₁ to₁ after
-          → TestWritten bytes at₁ to₁ after at₂ to₂ last
-          → TestWritten bytes at to before at₂ to₂ last
+      pub both-written : TwoTests ≡ signOf (getD bytes at 0) → TestWritten bytes (at + 1) (to + 1) mid to₁ after → TestWritten bytes at to before to₂ last
       unfolding normal walkText
-      both-written e h i = record { each = λ t s. go (spread s 38 e) }
+      both-written s h = record { each = λ t k. go (sign-is s) refl (spread k _ refl) }
         where
-          go : {t : Test} → Spread bytes at 38 (ofTest t) → Done at₂ to₂ last t
-          go (both-at t u p q) = let k = h .each t p in two (seen e) k (i .each u (moved (k .read) q)) refl refl
+          go : {b : ℕ} {t : Test} → SignIs b TwoTests → getD bytes at 0 ≡ b → Spread bytes at b (ofTest t) → Done to₂ last t
+          go both-sign e (both-at t u p q) = two (seen e) (h .each t p) (second u (behind table p q)) refl
 
       -- `<WT`
-      pub diamond-written :
-          NoneBut (getD bytes at 0)
-          → WalkWritten bytes false (at + 1) (to + 1) mid at₁ to₁ after
-          → TestWritten bytes at₁ to₁ after at₂ to₂ last
-          → TestWritten bytes at to before at₂ to₂ last
+      pub diamond-written : WalkThenTest ≡ signOf (getD bytes at 0) → WalkWritten bytes false (at + 1) (to + 1) mid to₁ after → TestWritten bytes at to before to₂ last
       unfolding normal walkText
-      diamond-written n h i = record { each = λ t s. go n (spread s _ refl) refl }
+      diamond-written s h = record { each = λ t k. go (sign-is s) refl (spread k _ refl) }
         where
-          go : {b : ℕ} {t : Test} → NoneBut b → Spread bytes at b (ofTest t) → getD bytes at 0 ≡ b → Done at₂ to₂ last t
-          go n always-at e = absurd (n .always refl)
-          go n (fluent-at i d) e = absurd (n .fluent refl)
-          go n (neg-at t s) e = absurd (n .neg refl)
-          go n (both-at t u p q) e = absurd (n .both refl)
-          go n (diamond-at w t p q) e = let k = h .each w p in two (seen e) k (i .each t (moved (k .read) q)) refl refl
+          go : {b : ℕ} {t : Test} → SignIs b WalkThenTest → getD bytes at 0 ≡ b → Spread bytes at b (ofTest t) → Done to₂ last t
+          go diamond-sign e (diamond-at w t p q) = two (seen e) (h .each w p) (second t (behind table p q)) refl

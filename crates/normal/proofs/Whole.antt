@@ -2,17 +2,21 @@
 use mathlib.Core.Path.{_≡_, refl, sym, ap, subst, _∙_}
 use mathlib.Core.Bool.{false}
 use mathlib.Core.List.{List, [], _∷_, _++_, append-nil}
-use Prim.Native.Nat.{ℕ, _^_, _≤_, _<_}
+use Prim.Native.Nat.{ℕ, _+_, _≤_, _<_}
 use native.Mathlib.Omega.{arith}
 use native.Mathlib.Nat.{zero-add}
-use lib.ListN.{length}
+use lib.ListN.{length, replicate}
 use lib.Seq.{sets}
+use Rattle.meaning.specs.Limits.{textLimit}
 use Rattle.meaning.specs.Rule.{Walk, Test, Rule, Kind, ofTest, ofWalk, testKind, walkKind, jobKind, Fits, Opens, text}
 use Rattle.refusal.specs.declared.Refusal.{Refusal}
 use Rattle.normal.specs.declared.NormalAnswer.{NormalAnswer}
 use Rattle.rule.specs.Standing.{Stands}
-use Rattle.normal.specs.Place.{WalkHere, TestHere, WalkWritten, TestWritten}
-use Rattle.normal.specs.Answer.{normalText, SpelledWhole, RuleWritten, WrittenOut}
+use Rattle.rule.specs.Ends.{FillOutcome}
+use Rattle.rule.proofs.Widths.{ends-told}
+use Rattle.normal.specs.Place.{WalkToWrite, TestToWrite, WalkWritten, TestWritten}
+use Rattle.normal.specs.Answer.{normalText}
+use Rattle.normal.specs.Whole.{ShortRule, SpelledWhole, RuleWritten, WrittenOut}
 
 -- a rule of this kind is a test; or it is a walk
 abbrev pub OnlyTests : Kind → Type 0
@@ -54,19 +58,20 @@ stands {bytes = bytes} o e = subst (Stands bytes 0) e (record {
 long : {kind : Kind} {bytes : List ℕ} {r s : Rule} → Opens kind bytes r [] → r ≡ s → length (text s) ≡ length bytes
 long {s = s} o e = sym (ap length (o .spells ∙ append-nil _ ∙ ap text e))
 
-module _ {kind : Kind} {bytes : List ℕ} where
-  pub test-whole : OnlyTests kind → SpelledWhole kind bytes → length bytes < 2 ^ 64 → TestHere bytes 0 0
-  test-whole only h fits =
+module _ {kind : Kind} {bytes ends : List ℕ} where
+  pub test-whole : OnlyTests kind → SpelledWhole kind bytes ends → TestToWrite bytes ends 0 0
+  test-whole only h =
       let (t, e) = only (h .rule) (h .spells .fits) in
-      record { test = t; stands = stands (h .spells) e; low = omega (arith, long (h .spells) e) }
+      record { marked = h .marked; test = t; stands = stands (h .spells) e; low = omega (arith, long (h .spells) e, h .marked .short) }
 
-  pub walk-whole : OnlyWalks kind → SpelledWhole kind bytes → length bytes < 2 ^ 64 → WalkHere bytes 0 0
-  walk-whole only h fits =
+  pub walk-whole : OnlyWalks kind → SpelledWhole kind bytes ends → WalkToWrite bytes ends 0 0
+  walk-whole only h =
       let (w, e) = only (h .rule) (h .spells .fits) in
-      record { walk = w; stands = stands (h .spells) e; low = omega (arith, long (h .spells) e) }
+      record { marked = h .marked; walk = w; stands = stands (h .spells) e; low = omega (arith, long (h .spells) e, h .marked .short) }
 
-  module _ {before after : List ℕ} {at to : ℕ} where
-    pub test-written : OnlyTests kind → TestWritten bytes 0 0 before at to after → RuleWritten kind bytes before to after
+module _ {kind : Kind} {bytes : List ℕ} where
+  module _ {before after : List ℕ} {to : ℕ} where
+    pub test-written : OnlyTests kind → TestWritten bytes 0 0 before to after → RuleWritten kind bytes before to after
     test-written only h = record {
       counted = λ r o.
           let (t, e) = only r (o .fits) in
@@ -76,7 +81,7 @@ module _ {kind : Kind} {bytes : List ℕ} where
           h .each t (stands o e) .bytes ∙ ap (λ (x : Rule). sets before 0 (normalText x)) (sym e);
     }
 
-    pub walk-written : OnlyWalks kind → WalkWritten bytes false 0 0 before at to after → RuleWritten kind bytes before to after
+    pub walk-written : OnlyWalks kind → WalkWritten bytes false 0 0 before to after → RuleWritten kind bytes before to after
     walk-written only h = record {
       counted = λ r o.
           let (w, e) = only r (o .fits) in
@@ -85,6 +90,11 @@ module _ {kind : Kind} {bytes : List ℕ} where
           let (w, e) = only r (o .fits) in
           h .each w (stands o e) .bytes ∙ ap (λ (x : Rule). sets before 0 (normalText x)) (sym e);
     }
+
+-- the table that a call fills says where each rule ends
+pub marked-by : {kind : Kind} {bytes ends : List ℕ} (h : ShortRule kind bytes) → FillOutcome bytes (replicate (textLimit + 1) 0) ends → SpelledWhole kind bytes ends
+marked-by {bytes = bytes} {ends = ends} h filled =
+    record { rule = h .rule; spells = h .spells; marked = record { short = h .short; table = ends-told bytes ends (h .short) filled } }
 
 -- A run over no output, which counts, and then what the count decides. The empty part is lent from the output's front and comes back.
 no-bytes : (l : List ℕ) → length l ≡ 0 → l ≡ []

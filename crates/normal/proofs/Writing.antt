@@ -8,11 +8,13 @@ use native.Mathlib.Numerals.{add-one}
 use lib.ListN.{length, set, length-append}
 use lib.Seq.{sets}
 use Rattle.meaning.specs.Rule.{Rule, text, digits}
-use Rattle.rule.specs.Standing.{NumberAt}
+use Rattle.spelling.specs.declared.Digits.the-variants.{Number}
+use Rattle.spelling.specs.Scan.{NumberAt}
+use Rattle.rule.proofs.Numbers.{number-tens, number-ones}
 use Rattle.normal.specs.Place.{Written, NumberWritten}
 
 -- to write two texts is to write the one and then the other behind it
-pub sets-append : (l : List ℕ) (i : ℕ) (xs ys : List ℕ) → sets l i (xs ++ ys) ≡ sets (sets l i xs) (i + length xs) ys
+sets-append : (l : List ℕ) (i : ℕ) (xs ys : List ℕ) → sets l i (xs ++ ys) ≡ sets (sets l i xs) (i + length xs) ys
 sets-append l i [] ys = ap (λ (k : ℕ). sets l k ys) (sym (add-zero i))
 sets-append l i (x ∷ xs) ys = sets-append (set l i x) (suc i) xs ys ∙ ap (λ (k : ℕ). sets (sets (set l i x) (suc i) xs) k ys) (omega arith)
 
@@ -24,74 +26,37 @@ sets-sign l m i s xs zs p f = ap₂ (λ (n : List ℕ) (k : ℕ). sets n k xs) p
 sets-two : (l m k : List ℕ) (i t : ℕ) (xs ys : List ℕ) → m ≡ sets l i xs → t ≡ i + length xs → k ≡ sets m t ys → k ≡ sets l i (xs ++ ys)
 sets-two l m k i t xs ys p q e = e ∙ ap₂ (λ (n : List ℕ) (j : ℕ). sets n j ys) p q ∙ sym (sets-append l i xs ys)
 
--- X's text is the sign b and what follows, Y's the sign s and what follows. From X at `at`, Y is written from `to` on: the sign first.
-module _ {at to : ℕ} {before mid : List ℕ} {b s : ℕ} {x y : Rule} (sign : mid ≡ set before to s) where
+-- Y's text is the sign s and what follows. It is written from `to` on: the sign first.
+module _ {to : ℕ} {before mid : List ℕ} {s : ℕ} {y : Rule} (sign : mid ≡ set before to s) where
   -- a sign alone
-  pub leaf : text x ≡ b ∷ [] → text y ≡ s ∷ [] → Written x y at to before (at + 1) (to + 1) mid
-  leaf e f = record { read = omega (arith, ap length e); wrote = omega (arith, ap length f); bytes = sign ∙ ap (sets before to) (sym f) }
+  pub leaf : text y ≡ s ∷ [] → Written y to before (to + 1) mid
+  leaf f = record { wrote = omega (arith, ap length f); bytes = sign ∙ ap (sets before to) (sym f) }
 
   -- a sign and its number
-  pub named : {bytes after : List ℕ} {n at₁ to₁ : ℕ}
-      → NumberAt bytes (at + 1) n
-      → NumberWritten bytes (at + 1) (to + 1) mid at₁ to₁ after
-      → text x ≡ b ∷ digits n
-      → text y ≡ s ∷ digits n
-      → Written x y at to before at₁ to₁ after
-  named d h e f = record {
-    read = omega (arith, ap length e);
-    wrote = omega (arith, ap length f);
-    bytes = h .copied ∙ rw (d .tens, d .ones, sign, f) (simp add-one);
+  pub named : {bytes after : List ℕ} {at to₁ : ℕ} (n : ℕ) → NumberAt bytes at (Number n) → NumberWritten bytes at (to + 1) mid to₁ after → text y ≡ s ∷ digits n
+      → Written y to before to₁ after
+  named {bytes} {after} {at} n d h f = record {
+    wrote = omega (arith, ap length f, h .wrote);
+    bytes = h .copied ∙ rw (number-tens bytes at n d, number-ones bytes at n d, sign, f) (simp add-one);
   }
 
-  module _ {at₁ to₁ : ℕ} {after : List ℕ} {v v′ : Rule} where
+  module _ {to₁ : ℕ} {after : List ℕ} {v : Rule} where
     -- a sign and one part
-    pub one : Written v v′ (at + 1) (to + 1) mid at₁ to₁ after → text x ≡ b ∷ text v → text y ≡ s ∷ text v′ → Written x y at to before at₁ to₁ after
-    one h e f = record {
-      read = omega (arith, ap length e, h .read);
+    pub one : Written v (to + 1) mid to₁ after → text y ≡ s ∷ text v → Written y to before to₁ after
+    one h f = record {
       wrote = omega (arith, ap length f, h .wrote);
-      bytes = h .bytes ∙ sets-sign before mid to s (text v′) (text y) sign f;
+      bytes = h .bytes ∙ sets-sign before mid to s (text v) (text y) sign f;
     }
 
-    module _ {at₂ to₂ : ℕ} {last : List ℕ} {w w′ : Rule} where
-      -- a sign and two parts, in their order
-      pub two :
-          Written v v′ (at + 1) (to + 1) mid at₁ to₁ after
-          → Written w w′ at₁ to₁ after at₂ to₂ last
-          → text x ≡ b ∷ (text v ++ text w)
-          → text y ≡ s ∷ (text v′ ++ text w′)
-          → Written x y at to before at₂ to₂ last
-      two h i e f = record {
-        read = omega (arith, ap length e, length-append (text v) (text w), h .read, i .read);
-        wrote = omega (arith, ap length f, length-append (text v′) (text w′), h .wrote, i .wrote);
-        bytes =
-            sets-two mid after last (to + 1) to₁ (text v′) (text w′) (h .bytes) (h .wrote) (i .bytes)
-            ∙ sets-sign before mid to s (text v′ ++ text w′) (text y) sign f;
-      }
-
-      -- or exchanged: w is found behind v, and written before it
-      pub exchanged : {middle : ℕ}
-          → middle ≡ at + 1 + length (text v)
-          → Written w w′ middle (to + 1) mid at₁ to₁ after
-          → Written v v′ (at + 1) to₁ after at₂ to₂ last
-          → text x ≡ b ∷ (text v ++ text w)
-          → text y ≡ s ∷ (text w′ ++ text v′)
-          → Written x y at to before at₁ to₂ last
-      exchanged m h i e f = record {
-        read = omega (arith, ap length e, length-append (text v) (text w), m, h .read);
-        wrote = omega (arith, ap length f, length-append (text w′) (text v′), h .wrote, i .wrote);
-        bytes =
-            sets-two mid after last (to + 1) to₁ (text w′) (text v′) (h .bytes) (h .wrote) (i .bytes)
-            ∙ sets-sign before mid to s (text w′ ++ text v′) (text y) sign f;
-      }
+    -- a sign and two parts
+    pub two : {to₂ : ℕ} {last : List ℕ} {w : Rule} → Written v (to + 1) mid to₁ after → Written w to₁ after to₂ last → text y ≡ s ∷ (text v ++ text w)
+        → Written y to before to₂ last
+    two {to₂} {last} {w} h i f = record {
+      wrote = omega (arith, ap length f, length-append (text v) (text w), h .wrote, i .wrote);
+      bytes =
+          sets-two mid after last (to + 1) to₁ (text v) (text w) (h .bytes) (h .wrote) (i .bytes) ∙ sets-sign before mid to s (text v ++ text w) (text y) sign f;
+    }
 
 -- a `-` taken away
-pub gone : {at to at₁ to₁ b : ℕ} {before after : List ℕ} {x y v v′ : Rule}
-    → Written v v′ (at + 1) to before at₁ to₁ after
-    → text x ≡ b ∷ text v
-    → text y ≡ text v′
-    → Written x y at to before at₁ to₁ after
-gone {to = to} {before = before} h e f = record {
-  read = omega (arith, ap length e, h .read);
-  wrote = omega (arith, ap length f, h .wrote);
-  bytes = h .bytes ∙ ap (sets before to) (sym f);
-}
+pub gone : {to to₁ : ℕ} {before after : List ℕ} {y v : Rule} → Written v to before to₁ after → text y ≡ text v → Written y to before to₁ after
+gone {to} {before = before} h f = record { wrote = omega (arith, ap length f, h .wrote); bytes = h .bytes ∙ ap (sets before to) (sym f) }

@@ -1,3 +1,4 @@
 pub mod Sign
 pub mod Place
 pub mod Answer
+pub mod Whole

@@ -1,14 +1,20 @@
-// The rewriter: a walk function and a test function that call one another, from the rule's text to lent output.
-use super::skip::end;
-use super::write::put;
+// The rewriter: a walk function and a test function that call one another, from the rule's text to lent output. What follows a sign is asked of the table of
+// signs, and where a second part begins of the table of ends.
 ghost use mathlib.Core.Path.{_≡_};
-ghost use Rattle.normal.specs.Sign.{facingSign};
-ghost use Rattle.normal.specs.Place.{WalkHere, TestHere, NumberHere, WalkWritten, TestWritten, NumberWritten};
+ghost use Prim.Native.Nat.{_≤_};
+ghost use lib.ListN.{getD};
+ghost use Rattle.meaning.specs.Limits.{textLimit};
+ghost use Rattle.normal.specs.Sign.{facingSign, swaps, inOrder};
+ghost use Rattle.normal.specs.Place.{WalkToWrite, TestToWrite, NumberHere, WalkWritten, TestWritten, NumberWritten};
+use super::write::put;
+use rule::ends::ENDS_ROOM;
+use rule::signs::Sign;
+use rule::signs::sign_of;
 
-// How far the text is read, and how far the output is written.
-pub struct Spot {
-    pub at: usize,
-    pub to: usize,
+// Two parts of a sign, in the order in which they are written.
+pub struct Parts {
+    pub first: usize,
+    pub second: usize,
 }
 
 // The sign under a converse: `a` and `r` turn into each other, so do `n` and `u`.
@@ -29,80 +35,110 @@ fn facing(sign: u8, back: bool) -> u8
 }
 
 // The two digits of a number.
-fn number(text: &[u8], at: usize, out: &mut [u8], to: usize) -> Spot
+fn number(text: &[u8], at: usize, out: &mut [u8], to: usize) -> usize
     requires { ⌜ NumberHere (now text) at to ⌝ }
-    ensures { λ r. ⌜ NumberWritten (now (text .entry)) at to (now (out .entry)) (r .at) (r .to) (now (out .exit)) ⌝ }
+    ensures { λ r. ⌜ NumberWritten (now (text .entry)) at to (now (out .entry)) r (now (out .exit)) ⌝ }
 {
     put(out, to, text[at]);
     put(out, to + 1, text[at + 1]);
-    Spot {
-        at: at + 2,
-        to: to + 2,
+    to + 2
+}
+
+fn wide(b: u8) -> usize
+    ensures { λ r. ⌜ r ≡ b ⌝ }
+{
+    b as usize
+}
+
+// Where the rule at a place ends.
+fn end(ends: &[u8; ENDS_ROOM], at: usize) -> usize
+    requires { ⌜ at ≤ textLimit ⌝ }
+    ensures { λ r. ⌜ r ≡ getD (now (ends .entry)) at 0 ⌝ }
+{
+    wide(ends[at])
+}
+
+// Of a sequence under a converse the second part comes first.
+fn order(sign: u8, back: bool, from: usize, middle: usize) -> Parts
+    ensures { λ r. ⌜ r ≡ inOrder (swaps back sign) from middle ⌝ }
+{
+    if back {
+        if sign == b';' {
+            return Parts {
+                first: middle,
+                second: from,
+            };
+        }
+    }
+    Parts {
+        first: from,
+        second: middle,
     }
 }
 
-// The walk at `at`, or under a converse its converse. Of a sequence under a converse the second part comes first.
-pub(crate) fn walk(text: &[u8], at: usize, back: bool, out: &mut [u8], to: usize) -> Spot
-    requires { ⌜ WalkHere (now text) at to ⌝ }
-    ensures { λ r. ⌜ WalkWritten (now (text .entry)) back at to (now (out .entry)) (r .at) (r .to) (now (out .exit)) ⌝ }
+// The walk at a place, or under a converse its converse; how far the output is written.
+pub(crate) fn walk(
+    text: &[u8],
+    ends: &[u8; ENDS_ROOM],
+    at: usize,
+    back: bool,
+    out: &mut [u8],
+    to: usize,
+) -> usize
+    requires { ⌜ WalkToWrite (now text) (now ends) at to ⌝ }
+    ensures { λ r. ⌜ WalkWritten (now (text .entry)) back at to (now (out .entry)) r (now (out .exit)) ⌝ }
 {
     let sign = text[at];
     let from = at + 1;
     if sign == b'-' {
-        return walk(text, from, !back, out, to);
+        return walk(text, ends, from, !back, out, to);
     }
     put(out, to, facing(sign, back));
     let next = to + 1;
-    match sign {
-        b'n' | b'u' => Spot { at: from, to: next },
-        b'a' | b'r' => number(text, from, out, next),
-        b'*' => walk(text, from, back, out, next),
-        b'?' => test(text, from, out, next),
+    match sign_of(sign) {
+        Sign::Step => next,
+        Sign::NamedStep => number(text, from, out, next),
+        Sign::OverWalk => walk(text, ends, from, back, out, next),
+        Sign::OverTest => test(text, ends, from, out, next),
         _ => {
-            if back {
-                if sign == b';' {
-                    let middle = end(text, from);
-                    let second = walk(text, middle, back, out, next);
-                    let done = second.to;
-                    let first = walk(text, from, back, out, done);
-                    return Spot {
-                        at: second.at,
-                        to: first.to,
-                    };
-                }
-            }
-            let first = walk(text, from, back, out, next);
-            let middle = first.at;
-            let done = first.to;
-            walk(text, middle, back, out, done)
+            let middle = end(ends, from);
+            let parts = order(sign, back, from, middle);
+            let first = parts.first;
+            let second = parts.second;
+            let done = walk(text, ends, first, back, out, next);
+            walk(text, ends, second, back, out, done)
         }
     }
 }
 
-// The test at `at`. A converse outside it does not reach the walks inside.
-pub(crate) fn test(text: &[u8], at: usize, out: &mut [u8], to: usize) -> Spot
-    requires { ⌜ TestHere (now text) at to ⌝ }
-    ensures { λ r. ⌜ TestWritten (now (text .entry)) at to (now (out .entry)) (r .at) (r .to) (now (out .exit)) ⌝ }
+// The test at a place. A converse outside it does not reach the walks inside.
+pub(crate) fn test(
+    text: &[u8],
+    ends: &[u8; ENDS_ROOM],
+    at: usize,
+    out: &mut [u8],
+    to: usize,
+) -> usize
+    requires { ⌜ TestToWrite (now text) (now ends) at to ⌝ }
+    ensures { λ r. ⌜ TestWritten (now (text .entry)) at to (now (out .entry)) r (now (out .exit)) ⌝ }
 {
     let sign = text[at];
     let from = at + 1;
     put(out, to, sign);
     let next = to + 1;
-    match sign {
-        b'1' => Spot { at: from, to: next },
-        b'f' => number(text, from, out, next),
-        b'!' => test(text, from, out, next),
-        b'&' => {
-            let first = test(text, from, out, next);
-            let middle = first.at;
-            let done = first.to;
-            test(text, middle, out, done)
+    match sign_of(sign) {
+        Sign::Constant => next,
+        Sign::NamedFluent => number(text, from, out, next),
+        Sign::Denial => test(text, ends, from, out, next),
+        Sign::TwoTests => {
+            let middle = end(ends, from);
+            let done = test(text, ends, from, out, next);
+            test(text, ends, middle, out, done)
         }
         _ => {
-            let first = walk(text, from, false, out, next);
-            let middle = first.at;
-            let done = first.to;
-            test(text, middle, out, done)
+            let middle = end(ends, from);
+            let done = walk(text, ends, from, false, out, next);
+            test(text, ends, middle, out, done)
         }
     }
 }

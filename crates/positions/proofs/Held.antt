@@ -1,22 +1,21 @@
--- Laws of position sets for whoever uses them: where positions lie, when two sets are one, the set as a number, its count and earliest position, and what
--- falls in a loop that makes a set larger. None of them shows the word.
+-- Laws of position sets for whoever uses them: where positions lie, when two sets are one, a set's count and earliest position, and what falls in a loop that
+-- makes a set larger. None of them shows the word.
 use mathlib.Core.Path.{_≡_, sym, ap, _∙_}
 use mathlib.Core.Logic.{_↔_, inl, inr}
 use mathlib.Core.Bool.{Bool, true, false, not, _&&_, _||_, and-false}
-use Prim.Native.Nat.{ℕ, _-_, _^_, _≤_, _<_}
+use Prim.Native.Nat.{ℕ, _-_, _≤_, _<_}
 use native.Mathlib.Omega.{arith}
 use lib.Dec.{ltb}
-use borrow.Author.Tests.{ltb-true, lt-ltb, not-true}
-use Rattle.laws.specs.Bit.{on, countBelow, firstBelow}
-use Rattle.laws.proofs.Truth.{no-truth, off-on, and-iff, and-idle, or-iff, implies-iff}
+use borrow.Author.Tests.{ltb-true, not-true}
+use Rattle.laws.specs.Bit.{on}
+use Rattle.laws.proofs.Truth.{no-truth, off-on, and-iff, or-iff, implies-iff}
 use Rattle.laws.proofs.On.{on-none, same-bits}
-use Rattle.laws.proofs.Gather.{on-gather, gather-lt}
-use Rattle.laws.proofs.Count.{Within, count-cong, count-le, count-grows}
-use Rattle.laws.proofs.First.{first-cong, first-found, first-least, first-none, first-some}
+use Rattle.laws.proofs.Count.{count-le, count-grows}
+use Rattle.laws.proofs.First.{first-le, first-found, first-none, first-some}
 use Rattle.meaning.specs.Limits.{places}
 use Rattle.meaning.specs.Reach.{countOf, earliestOf}
 use Rattle.positions.specs.declared.PositionSet.{PositionSet}
-use Rattle.positions.specs.Positions.{holds, nothing, wordOf, Empty, Inside, Proper}
+use Rattle.positions.specs.Positions.{holds, nothing, Empty, Inside, Proper}
 use Rattle.positions.proofs.Word.{ofWord, held-bit}
 
 -- a position that is held is one of the places
@@ -32,33 +31,20 @@ nothing-held q = rw on-none (and-false (ltb q places))
 pub same-set : (s t : PositionSet) → Proper s → Proper t → ((q : ℕ) → holds s q ≡ holds t q) → s ≡ t
 same-set s t ps pt h = ap ofWord (same-bits (s .word) (t .word) (λ q. sym (held-bit s ps q) ∙ h q ∙ held-bit t pt q))
 
--- the set as a number
-pub word-bit : (s : PositionSet) (q : ℕ) → on (wordOf s) q ≡ holds s q
-word-bit s q = on-gather places (holds s) q ∙ and-idle (ltb q places) (holds s q) (λ e. lt-ltb q places (held-place s e))
-
-pub word-lt : (s : PositionSet) → wordOf s < 2 ^ places
-word-lt s = gather-lt places (holds s)
-
 -- the count, and the earliest position
-pub count-held : (s : PositionSet) → countOf (wordOf s) ≡ countBelow places (holds s)
-count-held s = count-cong places (λ q l. word-bit s q)
+pub count-most : (s : PositionSet) → countOf (holds s) ≤ places
+count-most s = count-le places (holds s)
 
-pub earliest-held : (s : PositionSet) → earliestOf (wordOf s) ≡ firstBelow places (holds s)
-earliest-held s = first-cong places (λ q l. word-bit s q)
+pub earliest-most : (s : PositionSet) → earliestOf (holds s) ≤ places
+earliest-most s = first-le places (holds s)
 
-pub count-most : (s : PositionSet) → countOf (wordOf s) ≤ places
-count-most s = count-le places (on (wordOf s))
+pub earliest-found : (s : PositionSet) → earliestOf (holds s) < places → holds s (earliestOf (holds s)) ≡ true
+earliest-found s h = first-found places (holds s) h
 
-pub earliest-found : (s : PositionSet) → earliestOf (wordOf s) < places → holds s (earliestOf (wordOf s)) ≡ true
-earliest-found s h = sym (word-bit s (earliestOf (wordOf s))) ∙ first-found places (on (wordOf s)) h
-
-pub earliest-least : (s : PositionSet) (q : ℕ) → q < earliestOf (wordOf s) → holds s q ≡ false
-earliest-least s q h = sym (word-bit s q) ∙ first-least places (on (wordOf s)) q h
-
-pub earliest-none : (s : PositionSet) → (earliestOf (wordOf s) ≡ places) ↔ Empty s
+pub earliest-none : (s : PositionSet) → (earliestOf (holds s) ≡ places) ↔ Empty s
 earliest-none s = (
-  λ e q. no-truth (holds s q) (λ t. off-on (first-none places (on (wordOf s)) .0 e q (held-place s t)) (word-bit s q ∙ t)),
-  λ none. first-none places (on (wordOf s)) .1 (λ q l. word-bit s q ∙ none q),
+  λ e q. no-truth (holds s q) (λ t. off-on (first-none places (holds s) .0 e q (held-place s t)) t),
+  λ none. first-none places (holds s) .1 (λ q l. none q),
 )
 
 -- a set that is not empty holds a position, and one that is not inside another holds a position that the other does not
@@ -82,17 +68,16 @@ inside-empty s t rest h = (
 )
 
 -- a set that takes in a further position counts more, and leaves fewer places: the measure of a loop that closes a set
-pub grows : (s t : PositionSet) → Inside s t → (Inside t s → ⊥) → countOf (wordOf s) < countOf (wordOf t)
+pub grows : (s t : PositionSet) → Inside s t → (Inside t s → ⊥) → countOf (holds s) < countOf (holds t)
 grows s t h k =
     let new = outside t s k in
-    let keeps : Within places (on (wordOf s)) (on (wordOf t)) = λ q l e. word-bit t q ∙ h q (sym (word-bit s q) ∙ e) in
-    count-grows places (on (wordOf s)) (on (wordOf t)) keeps (new .0) (held-place t (new .1)) (word-bit s (new .0) ∙ new .2) (word-bit t (new .0) ∙ new .1)
+    count-grows places (holds s) (holds t) (λ q l e. h q e) (new .0) (held-place t (new .1)) (new .2) (new .1)
 
-pub falls : (s t : PositionSet) → Inside s t → (Inside t s → ⊥) → places - countOf (wordOf t) < places - countOf (wordOf s)
+pub falls : (s t : PositionSet) → Inside s t → (Inside t s → ⊥) → places - countOf (holds t) < places - countOf (holds s)
 falls s t h k = omega (arith, grows s t h k, count-most t)
 
 -- such a loop joins what is not yet inside
 pub join-falls : (s more t : PositionSet) → ((q : ℕ) → holds t q ≡ (holds s q || holds more q)) → (Inside more s → ⊥) →
-    places - countOf (wordOf t) < places - countOf (wordOf s)
+    places - countOf (holds t) < places - countOf (holds s)
 join-falls s more t h k =
     falls s t (λ q e. h q ∙ or-iff (holds s q) (holds more q) .1 (inl e)) (λ back. k (λ q e. back q (h q ∙ or-iff (holds s q) (holds more q) .1 (inr e))))

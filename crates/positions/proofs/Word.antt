@@ -19,13 +19,12 @@ use Rattle.laws.proofs.Truth.{same-truth, no-truth, and-iff, and-idle}
 use Rattle.laws.proofs.On.{on-none, on-below, on-shr, same-bits}
 use Rattle.laws.proofs.Bitwise.{on-and, on-or}
 use Rattle.laws.proofs.Shift.{on-shl, on-one-shl, on-not, on-ones}
-use Rattle.laws.proofs.Gather.{gather-cong, gather-bits}
-use Rattle.laws.proofs.Count.{count-ones}
-use Rattle.laws.proofs.First.{first-trailing}
+use Rattle.laws.proofs.Count.{count-ones, count-cong}
+use Rattle.laws.proofs.First.{first-trailing, first-cong}
 use Rattle.meaning.specs.Limits.{logLimit, places}
-use Rattle.meaning.specs.Reach.{countOf, earliestOf}
+use Rattle.meaning.specs.Reach.{countOf, earliestOf, SetWord}
 use Rattle.positions.specs.declared.PositionSet.{PositionSet}
-use Rattle.positions.specs.Positions.{holds, wordOf, Empty, Proper}
+use Rattle.positions.specs.Positions.{holds, Empty, Proper}
 
 abbrev pub ofWord : ℕ → PositionSet
 ofWord w = record { word = w }
@@ -34,10 +33,6 @@ ofWord w = record { word = w }
 pub held-bit : (s : PositionSet) → Proper s → (q : ℕ) → holds s q ≡ on (s .word) q
 unfolding holds
 held-bit s h q = and-idle (ltb q places) (on (s .word) q) (λ e. lt-ltb q places (on-below places (h .fits) e))
-
-pub of-word : (w q : ℕ) → holds (ofWord w) q ≡ (ltb q places && on w q)
-unfolding holds
-of-word w q = refl
 
 -- `(a >> p) % 2 == 1`, and past the last place
 pub has-place : (s : PositionSet) (p : ℕ) → p < places → eqb (s .word / 2 ^ p % 2) 1 ≡ holds s p
@@ -122,16 +117,16 @@ empty-word s h = (
   λ none. eq-eqb (s .word) 0 (same-bits (s .word) 0 (λ q. sym (held-bit s h q) ∙ none q ∙ sym (on-none q))),
 )
 
--- the number that the set stands for
-pub word-is : (s : PositionSet) → Proper s → wordOf s ≡ s .word
-word-is s h = gather-cong places (λ q l. held-bit s h q) ∙ gather-bits places (h .fits)
+-- the set as a number
+pub set-word : (s : PositionSet) → Proper s → SetWord (holds s) (s .word)
+set-word s h = record { width = h .fits; bits = λ q. sym (held-bit s h q) }
 
 -- `count_ones` and `trailing_zeros`
-pub count-word : (s : PositionSet) → Proper s → ones (s .word) ≡ countOf (wordOf s)
-count-word s h = rw (word-is s h) (sym (count-ones places (h .fits)))
+pub count-word : (s : PositionSet) → Proper s → ones (s .word) ≡ countOf (holds s)
+count-word s h = sym (count-ones places (h .fits)) ∙ count-cong places (λ q l. sym (held-bit s h q))
 
-pub earliest-word : (s : PositionSet) → Proper s → trailingZeros places (s .word) ≡ earliestOf (wordOf s)
-earliest-word s h = rw (word-is s h) (sym (first-trailing places (s .word)))
+pub earliest-word : (s : PositionSet) → Proper s → trailingZeros places (s .word) ≡ earliestOf (holds s)
+earliest-word s h = sym (first-trailing places (s .word)) ∙ first-cong places (λ q l. sym (held-bit s h q))
 
 -- either is a number that a machine has
 pub ones-fit : (w : ℕ) → w < 2 ^ places → Fits w64 (ones w)

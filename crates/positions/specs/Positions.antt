@@ -1,10 +1,10 @@
--- Which positions a set holds, and the set as a number. What a contract of this crate says of a set it says by `holds`; the word behind it is opened only
+-- Which positions a set holds. What a contract of this crate says of a set it says by `holds`; the word behind it is opened only
 -- in this crate's proofs.
 use mathlib.Core.Path.{_≡_}
 use mathlib.Core.Bool.{Bool, true, false, _&&_}
 use Prim.Native.Nat.{ℕ, _^_, _<_}
 use lib.Dec.{ltb}
-use Rattle.laws.specs.Bit.{on, gather}
+use Rattle.laws.specs.Bit.{on}
 use Rattle.meaning.specs.Limits.{places}
 use Rattle.positions.specs.declared.PositionSet.{PositionSet}
 
@@ -15,10 +15,6 @@ holds s q = ltb q places && on (s .word) q
 -- PositionSet::EMPTY
 abbrev pub nothing : PositionSet
 nothing = record { word = 0 }
-
--- "as a 64-bit number with bit q for position q"
-abbrev pub wordOf : PositionSet → ℕ
-wordOf s = gather places (holds s)
 
 -- the set holds no position
 abbrev pub Empty : PositionSet → Type 0

@@ -4,10 +4,9 @@ ghost use mathlib.Core.Logic.{_↔_};
 ghost use mathlib.Core.Bool.{true, not, _&&_, _||_};
 ghost use Prim.Native.Nat.{ℕ, _+_, _-_};
 ghost use lib.Dec.{eqb, leb, ltb};
-ghost use Rattle.laws.specs.Bit.{on};
 ghost use Rattle.meaning.specs.Limits.{places};
-ghost use Rattle.meaning.specs.Reach.{countOf, earliestOf};
-ghost use Rattle.positions.specs.Positions.{holds, wordOf, Empty, Inside};
+ghost use Rattle.meaning.specs.Reach.{countOf, earliestOf, SetWord};
+ghost use Rattle.positions.specs.Positions.{holds, Empty, Inside};
 
 // Bit q of the word is position q.
 pub struct PositionSet {
@@ -53,7 +52,7 @@ impl PositionSet {
 
     // The set that a number in a table stands for.
     pub fn of_word(word: u64) -> Self
-        ensures { λ r. ⌜ ((q : ℕ) → holds r q ≡ (ltb q places && on word q)) ⌝ }
+        ensures { λ r. ⌜ SetWord (holds r) word ⌝ }
     {
         Self { word }
     }
@@ -127,7 +126,7 @@ impl PositionSet {
     }
 
     pub fn count(self) -> usize
-        ensures { λ r. ⌜ r ≡ countOf (wordOf self) ⌝ }
+        ensures { λ r. ⌜ r ≡ countOf (holds self) ⌝ }
     {
         let ones = u64::count_ones(self.word);
         ones as usize
@@ -135,7 +134,7 @@ impl PositionSet {
 
     // The first position, and PLACES where there is none.
     pub fn earliest(self) -> usize
-        ensures { λ r. ⌜ r ≡ earliestOf (wordOf self) ⌝ }
+        ensures { λ r. ⌜ r ≡ earliestOf (holds self) ⌝ }
     {
         let zeros = u64::trailing_zeros(self.word);
         zeros as usize
@@ -143,7 +142,7 @@ impl PositionSet {
 
     // The set as a number, with bit q for position q.
     pub fn word(self) -> u64
-        ensures { λ r. ⌜ r ≡ wordOf self ⌝ }
+        ensures { λ r. ⌜ SetWord (holds self) r ⌝ }
     {
         self.word
     }

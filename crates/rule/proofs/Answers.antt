@@ -1,23 +1,48 @@
 -- Laws of what the readers answer, sign by sign, on lists of bytes. Rests on the readers of `Reading`; no code.
 use mathlib.Core.Path.{_≡_, refl, sym, ap, ap₂, subst, subst⁻¹, _∙_}
-use mathlib.Core.Logic.{_⊎_, inl, inr, ⊎-elim, _↔_}
+use mathlib.Core.Logic.{_↔_}
 use mathlib.Core.Bool.{Bool, true, false}
 use mathlib.Core.List.{List, [], _++_}
 use Prim.Native.Nat.{ℕ, _+_, _-_, _≤_, _<_}
 use native.Mathlib.Omega.{arith}
 use lib.ListN.{length, drop, getD, length-drop, length-append, drop-of-length-le}
-use lib.Seq.{drop-drop, drop-append-seam}
 use borrow.Author.Tests.{ne-eqb}
+use Rattle.meaning.specs.Limits.{textLimit}
 use Rattle.meaning.specs.Rule.{Walk, Test, act, undo, next, prev, seq, alt, star, check, conv, always, fluent, neg, both, diamond, walkText, testText, walkDepth, testDepth, walkNames, testNames, backward, Kind, testKind, walkKind, jobKind, Rule, ofTest, ofWalk, text, depth, Opens}
 use Rattle.meaning.proofs.Reading.Shapes.{Got, got, bad, Reader, onward, Shape, readBy, readNumber, none, number-sound, number-complete}
 use Rattle.meaning.proofs.Reading.{readWalk, readTest, readRule, walkSign, testSign, walk-none, test-none, walk-step, test-step, walk-sound, test-sound, read-of-opens, opens-of-read, none-of-bad}
-use Rattle.rule.specs.declared.Facts.{Facts}
+use Rattle.rule.specs.declared.answer.Facts.{Facts}
 use Rattle.rule.specs.declared.answer.Read.{Read}
-use Rattle.rule.specs.declared.number.Number.{Number}
-use Rattle.rule.specs.Number.{NumberAt}
+use Rattle.rule.specs.declared.signs.Sign.{Sign}
+use Rattle.rule.specs.declared.signs.Sign.the-variants.{Step, NamedStep, OverWalk, OverTest, TwoWalks, Constant, NamedFluent, Denial, TwoTests, WalkThenTest, Stranger}
+use Rattle.rule.specs.Signs.{signTable, signOf, turnsBack}
+use Rattle.spelling.specs.declared.Digits.{Digits}
+use Rattle.spelling.specs.declared.Digits.the-variants.{Number, Other}
+use Rattle.spelling.specs.Scan.{NumberAt}
+use Rattle.spelling.proofs.TwoDigits.{here}
 use Rattle.rule.specs.Facts.{factsOf, depthIn, leafOf, stepOf, fluentOf, aboveOf, besideOf, insideOf}
 use Rattle.rule.specs.Read.{ReadAt}
-use Rattle.rule.proofs.Numbers.{here}
+use Rattle.rule.proofs.Numbers.{after-part}
+use Rattle.rule.proofs.SignTable.{
+  Strange,
+  SignIs,
+  sign-is,
+  act-sign,
+  undo-sign,
+  next-sign,
+  prev-sign,
+  seq-sign,
+  alt-sign,
+  star-sign,
+  conv-sign,
+  check-sign,
+  always-sign,
+  fluent-sign,
+  neg-sign,
+  both-sign,
+  diamond-sign,
+  no-sign,
+}
 
 -- a job is read as a walk is
 job-opens : (bytes : List ℕ) (r : Rule) (rest : List ℕ) → Opens walkKind bytes r rest ↔ Opens jobKind bytes r rest
@@ -80,10 +105,6 @@ walk-at bytes at b h e = ap readWalk (here bytes at h) ∙ walk-step (getD bytes
 test-at : (bytes : List ℕ) (at b : ℕ) → at < length bytes → getD bytes at 0 ≡ b → readTest (drop at bytes) ≡ readBy (testSign b) readWalk readTest (drop (at + 1) bytes)
 test-at bytes at b h e = ap readTest (here bytes at h) ∙ test-step (getD bytes at 0) (drop (at + 1) bytes) ∙ ap (λ (x : ℕ). readBy (testSign x) readWalk readTest (drop (at + 1) bytes)) e
 
--- two facts that agree in each field
-same-facts : (f g : Facts) → f .end ≡ g .end → f .depth ≡ g .depth → f .actions ≡ g .actions → f .fluents ≡ g .fluents → f .backward ≡ g .backward → f ≡ g
-same-facts f g e d a l b = λ i. record { end = e i; depth = d i; actions = a i; fluents = l i; backward = b i }
-
 -- How an answer comes from the parts' answers.
 above-answer : {A B : Type 0} (of : A → Rule) (whole : A → B) (of′ : B → Rule) (at : ℕ) (turn : Bool)
     → ((a : A) → aboveOf (answer of (at + 1) (got a [])) turn ≡ answer of′ at (got (whole a) []))
@@ -91,14 +112,14 @@ above-answer : {A B : Type 0} (of : A → Rule) (whole : A → B) (of′ : B →
 above-answer of whole of′ at turn same (got a rest) = same a
 above-answer of whole of′ at turn same bad = refl
 
-number-answer : {B : Type 0} (whole : ℕ → B) (of′ : B → Rule) (bytes : List ℕ) (at : ℕ) (made : Number → Read)
-    → made Number.Not ≡ Read.Refused → ((n : ℕ) → made (Number.Is n) ≡ answer of′ at (got (whole n) []))
-    → (n : Number) → NumberAt bytes (at + 1) n → made n ≡ answer of′ at (onward (readNumber (drop (at + 1) bytes)) (λ k rest. got (whole k) rest))
-number-answer whole of′ bytes at made empty same (Number.Is n) h =
+number-answer : {B : Type 0} (whole : ℕ → B) (of′ : B → Rule) (bytes : List ℕ) (at : ℕ) (made : Digits → Read)
+    → made Other ≡ Read.Refused → ((n : ℕ) → made (Number n) ≡ answer of′ at (got (whole n) []))
+    → (n : Digits) → NumberAt bytes (at + 1) n → made n ≡ answer of′ at (onward (readNumber (drop (at + 1) bytes)) (λ k rest. got (whole k) rest))
+number-answer whole of′ bytes at made empty same (Number n) h =
     same n ∙ ap (λ (g : Got ℕ). answer of′ at (onward g (λ k rest. got (whole k) rest))) (sym (ap readNumber (h .1) ∙ number-complete n (drop (at + 1 + 2) bytes) (h .0)))
-number-answer whole of′ bytes at made empty same Number.Not h = go (readNumber (drop (at + 1) bytes)) refl
+number-answer whole of′ bytes at made empty same Other h = go (readNumber (drop (at + 1) bytes)) refl
   where
-    go : (g : Got ℕ) → readNumber (drop (at + 1) bytes) ≡ g → made Number.Not ≡ answer of′ at (onward g (λ k rest. got (whole k) rest))
+    go : (g : Got ℕ) → readNumber (drop (at + 1) bytes) ≡ g → made Other ≡ answer of′ at (onward g (λ k rest. got (whole k) rest))
     go (got n rest) e = let (s, b) = number-sound (drop (at + 1) bytes) n rest e in absurd (h n rest b s)
     go bad e = empty
 
@@ -110,10 +131,6 @@ first-refused : {A B : Type 0} (of : A → Rule) (of′ : B → Rule) (at : ℕ)
     → Read.Refused ≡ answer of (at + 1) g → Read.Refused ≡ answer of′ at (onward g go-on)
 first-refused of of′ at go-on (got a rest) e = absurd (refused≢found _ e)
 first-refused of of′ at go-on bad e = refl
-
--- the part that follows what is spelled there
-after-part : (bytes part rest : List ℕ) (at : ℕ) → drop at bytes ≡ part ++ rest → drop (at + length part) bytes ≡ rest
-after-part bytes part rest at e = sym (drop-drop (length part) at bytes) ∙ ap (drop (length part)) e ∙ drop-append-seam part rest
 
 -- two parts: the facts of the first may be sheltered, as those of a walk in a `<` are
 module _ {A B C : Type 0} (of : A → Rule) (of′ : B → Rule) (whole : A → B → C) (of″ : C → Rule) (shelter : Facts → Facts) (at : ℕ) where
@@ -137,22 +154,75 @@ module _ {A B C : Type 0} (of : A → Rule) (of′ : B → Rule) (whole : A → 
       ap₂ (λ (x : Facts) (y : Read). besideOf (shelter x) y) f-is r-is ∙ second-answer same a (rb rest)
   pair-answer same rb bytes bad sound f r p q = absurd (refused≢found f (sym p))
 
--- a byte that is no sign of a walk, or of a test, as the readers find it out
-abbrev pub NoWalkSign : ℕ → Type 0
-NoWalkSign b =
-    (((((((Unit {0} × (b ≡ 97 → ⊥)) × (b ≡ 114 → ⊥)) × (b ≡ 110 → ⊥)) × (b ≡ 117 → ⊥)) × ((b ≡ 59) ⊎ (b ≡ 124) → ⊥)) × (b ≡ 42 → ⊥)) × (b ≡ 63 → ⊥)) × (b ≡ 45 → ⊥)
+-- a byte that is no sign of a walk, or of a test
+no-walk-sign : (b : ℕ) → Strange signTable b → walkSign b ≡ none
+no-walk-sign b (a, (r, (n, (u, (s, (c, (w, (v, (t, rest))))))))) =
+    simp (ne-eqb b 97 a, ne-eqb b 114 r, ne-eqb b 110 n, ne-eqb b 117 u, ne-eqb b 59 s, ne-eqb b 124 c, ne-eqb b 42 w, ne-eqb b 45 v, ne-eqb b 63 t)
 
-abbrev pub NoTestSign : ℕ → Type 0
-NoTestSign b = ((((Unit {0} × (b ≡ 49 → ⊥)) × (b ≡ 102 → ⊥)) × (b ≡ 33 → ⊥)) × (b ≡ 38 → ⊥)) × (b ≡ 60 → ⊥)
+no-test-sign : (b : ℕ) → Strange signTable b → testSign b ≡ none
+no-test-sign b (a, (r, (n, (u, (s, (c, (w, (v, (t, (o, (f, (x, (y, (d, e)))))))))))))) =
+    simp (ne-eqb b 49 o, ne-eqb b 102 f, ne-eqb b 33 x, ne-eqb b 38 y, ne-eqb b 60 d)
 
-no-walk-sign : (b : ℕ) → NoWalkSign b → walkSign b ≡ none
-no-walk-sign b n =
-    let pair = n .0 .0 .0 .1 in
-    simp (ne-eqb b 97 (n .0 .0 .0 .0 .0 .0 .0 .1), ne-eqb b 114 (n .0 .0 .0 .0 .0 .0 .1), ne-eqb b 110 (n .0 .0 .0 .0 .0 .1), ne-eqb b 117 (n .0 .0 .0 .0 .1), ne-eqb b 59 (λ e. pair (inl e)), ne-eqb b 124 (λ e. pair (inr e)), ne-eqb b 42 (n .0 .0 .1), ne-eqb b 63 (n .0 .1), ne-eqb b 45 (n .1))
+-- the sign is none of a walk, or none of a test
+abbrev pub NoWalk : Sign → Type 0
+NoWalk Step = ⊥
+NoWalk NamedStep = ⊥
+NoWalk OverWalk = ⊥
+NoWalk OverTest = ⊥
+NoWalk TwoWalks = ⊥
+NoWalk Constant = Unit {0}
+NoWalk NamedFluent = Unit {0}
+NoWalk Denial = Unit {0}
+NoWalk TwoTests = Unit {0}
+NoWalk WalkThenTest = Unit {0}
+NoWalk Stranger = Unit {0}
 
-no-test-sign : (b : ℕ) → NoTestSign b → testSign b ≡ none
-no-test-sign b n =
-    simp (ne-eqb b 49 (n .0 .0 .0 .0 .1), ne-eqb b 102 (n .0 .0 .0 .1), ne-eqb b 33 (n .0 .0 .1), ne-eqb b 38 (n .0 .1), ne-eqb b 60 (n .1))
+abbrev pub NoTest : Sign → Type 0
+NoTest Step = Unit {0}
+NoTest NamedStep = Unit {0}
+NoTest OverWalk = Unit {0}
+NoTest OverTest = Unit {0}
+NoTest TwoWalks = Unit {0}
+NoTest Constant = ⊥
+NoTest NamedFluent = ⊥
+NoTest Denial = ⊥
+NoTest TwoTests = ⊥
+NoTest WalkThenTest = ⊥
+NoTest Stranger = Unit {0}
+
+unread-as-walk : {b : ℕ} {s : Sign} → SignIs b s → NoWalk s → walkSign b ≡ none
+unread-as-walk act-sign n = absurd n
+unread-as-walk undo-sign n = absurd n
+unread-as-walk next-sign n = absurd n
+unread-as-walk prev-sign n = absurd n
+unread-as-walk seq-sign n = absurd n
+unread-as-walk alt-sign n = absurd n
+unread-as-walk star-sign n = absurd n
+unread-as-walk conv-sign n = absurd n
+unread-as-walk check-sign n = absurd n
+unread-as-walk always-sign n = refl
+unread-as-walk fluent-sign n = refl
+unread-as-walk neg-sign n = refl
+unread-as-walk both-sign n = refl
+unread-as-walk diamond-sign n = refl
+unread-as-walk (no-sign b s) n = no-walk-sign b s
+
+unread-as-test : {b : ℕ} {s : Sign} → SignIs b s → NoTest s → testSign b ≡ none
+unread-as-test act-sign n = refl
+unread-as-test undo-sign n = refl
+unread-as-test next-sign n = refl
+unread-as-test prev-sign n = refl
+unread-as-test seq-sign n = refl
+unread-as-test alt-sign n = refl
+unread-as-test star-sign n = refl
+unread-as-test conv-sign n = refl
+unread-as-test check-sign n = refl
+unread-as-test always-sign n = absurd n
+unread-as-test fluent-sign n = absurd n
+unread-as-test neg-sign n = absurd n
+unread-as-test both-sign n = absurd n
+unread-as-test diamond-sign n = absurd n
+unread-as-test (no-sign b s) n = no-test-sign b s
 
 -- The signs, one by one.
 one-more : {end end′ depth depth′ actions fluents : ℕ} {turn : Bool} → end ≡ end′ → depth ≡ depth′
@@ -167,39 +237,39 @@ module _ (bytes : List ℕ) (at : ℕ) where
   test-ends h = test-meets bytes at bad (ap readTest (drop-of-length-le bytes h) ∙ test-none) Read.Refused refl
 
   module _ (h : at < length bytes) where
-    pub walk-act : getD bytes at 0 ≡ 97 → (n : Number) → NumberAt bytes (at + 1) n → ReadAt walkKind bytes at (stepOf n (at + 3) false)
+    walk-act : getD bytes at 0 ≡ 97 → (n : Digits) → NumberAt bytes (at + 1) n → ReadAt walkKind bytes at (stepOf n (at + 3) false)
     unfolding walkText walkDepth walkNames backward
     walk-act e n p =
         walk-meets bytes at _ (walk-at bytes at 97 h e) (stepOf n (at + 3) false)
-        (number-answer act ofWalk bytes at (λ (x : Number). stepOf x (at + 3) false) refl (λ k. refl) n p)
+        (number-answer act ofWalk bytes at (λ (x : Digits). stepOf x (at + 3) false) refl (λ k. refl) n p)
 
-    pub walk-undo : getD bytes at 0 ≡ 114 → (n : Number) → NumberAt bytes (at + 1) n → ReadAt walkKind bytes at (stepOf n (at + 3) true)
+    walk-undo : getD bytes at 0 ≡ 114 → (n : Digits) → NumberAt bytes (at + 1) n → ReadAt walkKind bytes at (stepOf n (at + 3) true)
     unfolding walkText walkDepth walkNames backward
     walk-undo e n p =
         walk-meets bytes at _ (walk-at bytes at 114 h e) (stepOf n (at + 3) true)
-        (number-answer undo ofWalk bytes at (λ (x : Number). stepOf x (at + 3) true) refl (λ k. refl) n p)
+        (number-answer undo ofWalk bytes at (λ (x : Digits). stepOf x (at + 3) true) refl (λ k. refl) n p)
 
-    pub walk-next : getD bytes at 0 ≡ 110 → ReadAt walkKind bytes at (leafOf (at + 1) false)
+    walk-next : getD bytes at 0 ≡ 110 → ReadAt walkKind bytes at (leafOf (at + 1) false)
     unfolding walkText walkDepth walkNames backward
     walk-next e = walk-meets bytes at _ (walk-at bytes at 110 h e) (leafOf (at + 1) false) refl
 
-    pub walk-prev : getD bytes at 0 ≡ 117 → ReadAt walkKind bytes at (leafOf (at + 1) true)
+    walk-prev : getD bytes at 0 ≡ 117 → ReadAt walkKind bytes at (leafOf (at + 1) true)
     unfolding walkText walkDepth walkNames backward
     walk-prev e = walk-meets bytes at _ (walk-at bytes at 117 h e) (leafOf (at + 1) true) refl
 
-    pub walk-star : getD bytes at 0 ≡ 42 → (p : Read) → ReadAt walkKind bytes (at + 1) p → ReadAt walkKind bytes at (aboveOf p false)
+    walk-star : getD bytes at 0 ≡ 42 → (p : Read) → ReadAt walkKind bytes (at + 1) p → ReadAt walkKind bytes at (aboveOf p false)
     unfolding walkText walkDepth walkNames backward
     walk-star e p q =
         walk-meets bytes at _ (walk-at bytes at 42 h e) (aboveOf p false)
         (ap (λ (x : Read). aboveOf x false) (walk-is bytes (at + 1) p q) ∙ above-answer ofWalk star ofWalk at false (λ a. one-more (omega arith) (omega arith)) (readWalk (drop (at + 1) bytes)))
 
-    pub walk-check : getD bytes at 0 ≡ 63 → (p : Read) → ReadAt testKind bytes (at + 1) p → ReadAt walkKind bytes at (aboveOf p false)
+    walk-check : getD bytes at 0 ≡ 63 → (p : Read) → ReadAt testKind bytes (at + 1) p → ReadAt walkKind bytes at (aboveOf p false)
     unfolding walkText walkDepth walkNames backward
     walk-check e p q =
         walk-meets bytes at _ (walk-at bytes at 63 h e) (aboveOf p false)
         (ap (λ (x : Read). aboveOf x false) (test-is bytes (at + 1) p q) ∙ above-answer ofTest check ofWalk at false (λ a. one-more (omega arith) (omega arith)) (readTest (drop (at + 1) bytes)))
 
-    pub walk-conv : getD bytes at 0 ≡ 45 → (p : Read) → ReadAt walkKind bytes (at + 1) p → ReadAt walkKind bytes at (aboveOf p true)
+    walk-conv : getD bytes at 0 ≡ 45 → (p : Read) → ReadAt walkKind bytes (at + 1) p → ReadAt walkKind bytes at (aboveOf p true)
     unfolding walkText walkDepth walkNames backward
     walk-conv e p q =
         walk-meets bytes at _ (walk-at bytes at 45 h e) (aboveOf p true)
@@ -219,46 +289,34 @@ module _ (bytes : List ℕ) (at : ℕ) where
         (pair-answer ofWalk ofWalk alt ofWalk (λ (x : Facts). x) at (λ v w. one-more (rw length-append (omega arith)) (omega arith)) readWalk bytes (readWalk (drop (at + 1) bytes))
         (λ w rest s. walk-sound (drop (at + 1) bytes) w rest s .0) f r (walk-is bytes (at + 1) (Read.Found f) p) (walk-is bytes (f .end) r q))
 
-    -- `;` and `|` are read alike
-    pub walk-pair : (getD bytes at 0 ≡ 59) ⊎ (getD bytes at 0 ≡ 124) → (f : Facts) (r : Read) → ReadAt walkKind bytes (at + 1) (Read.Found f)
-        → ReadAt walkKind bytes (f .end) r → ReadAt walkKind bytes at (besideOf f r)
-    walk-pair s f r p q = ⊎-elim (λ e. walk-seq e f r p q) (λ e. walk-alt e f r p q) s
+    walk-pair-none : (b : ℕ) (go-on : Walk → List ℕ → Got Walk) → readWalk (drop at bytes) ≡ onward (readWalk (drop (at + 1) bytes)) go-on
+        → ReadAt walkKind bytes (at + 1) Read.Refused → ReadAt walkKind bytes at Read.Refused
+    walk-pair-none b go-on e p = walk-meets bytes at _ e Read.Refused (first-refused ofWalk ofWalk at go-on (readWalk (drop (at + 1) bytes)) (walk-is bytes (at + 1) Read.Refused p))
 
-    pub walk-pair-none : (getD bytes at 0 ≡ 59) ⊎ (getD bytes at 0 ≡ 124) → ReadAt walkKind bytes (at + 1) Read.Refused → ReadAt walkKind bytes at Read.Refused
-    walk-pair-none s p =
-        let first = walk-is bytes (at + 1) Read.Refused p in
-        let none : (b : ℕ) (go-on : Walk → List ℕ → Got Walk) → readWalk (drop at bytes) ≡ onward (readWalk (drop (at + 1) bytes)) go-on → ReadAt walkKind bytes at Read.Refused =
-        λ b go-on e. walk-meets bytes at _ e Read.Refused (first-refused ofWalk ofWalk at go-on (readWalk (drop (at + 1) bytes)) first) in
-        ⊎-elim (λ e. none 59 _ (walk-at bytes at 59 h e)) (λ e. none 124 _ (walk-at bytes at 124 h e)) s
-
-    pub walk-strange : NoWalkSign (getD bytes at 0) → ReadAt walkKind bytes at Read.Refused
-    walk-strange n =
-        walk-meets bytes at bad (walk-at bytes at (getD bytes at 0) h refl ∙ ap (λ (s : Shape Walk). readBy s readWalk readTest (drop (at + 1) bytes)) (no-walk-sign (getD bytes at 0) n)) Read.Refused refl
-
-    pub test-always : getD bytes at 0 ≡ 49 → ReadAt testKind bytes at (leafOf (at + 1) false)
+    test-always : getD bytes at 0 ≡ 49 → ReadAt testKind bytes at (leafOf (at + 1) false)
     unfolding testText testDepth testNames
     test-always e = test-meets bytes at _ (test-at bytes at 49 h e) (leafOf (at + 1) false) refl
 
-    pub test-fluent : getD bytes at 0 ≡ 102 → (n : Number) → NumberAt bytes (at + 1) n → ReadAt testKind bytes at (fluentOf n (at + 3))
+    test-fluent : getD bytes at 0 ≡ 102 → (n : Digits) → NumberAt bytes (at + 1) n → ReadAt testKind bytes at (fluentOf n (at + 3))
     unfolding testText testDepth testNames
     test-fluent e n p =
         test-meets bytes at _ (test-at bytes at 102 h e) (fluentOf n (at + 3))
-        (number-answer fluent ofTest bytes at (λ (x : Number). fluentOf x (at + 3)) refl (λ k. refl) n p)
+        (number-answer fluent ofTest bytes at (λ (x : Digits). fluentOf x (at + 3)) refl (λ k. refl) n p)
 
-    pub test-neg : getD bytes at 0 ≡ 33 → (p : Read) → ReadAt testKind bytes (at + 1) p → ReadAt testKind bytes at (aboveOf p false)
+    test-neg : getD bytes at 0 ≡ 33 → (p : Read) → ReadAt testKind bytes (at + 1) p → ReadAt testKind bytes at (aboveOf p false)
     unfolding testText testDepth testNames
     test-neg e p q =
         test-meets bytes at _ (test-at bytes at 33 h e) (aboveOf p false)
         (ap (λ (x : Read). aboveOf x false) (test-is bytes (at + 1) p q) ∙ above-answer ofTest neg ofTest at false (λ a. one-more (omega arith) (omega arith)) (readTest (drop (at + 1) bytes)))
 
-    pub test-both : getD bytes at 0 ≡ 38 → (f : Facts) (r : Read) → ReadAt testKind bytes (at + 1) (Read.Found f) → ReadAt testKind bytes (f .end) r → ReadAt testKind bytes at (besideOf f r)
+    test-both : getD bytes at 0 ≡ 38 → (f : Facts) (r : Read) → ReadAt testKind bytes (at + 1) (Read.Found f) → ReadAt testKind bytes (f .end) r → ReadAt testKind bytes at (besideOf f r)
     unfolding testText testDepth testNames
     test-both e f r p q =
         test-meets bytes at _ (test-at bytes at 38 h e) (besideOf f r)
         (pair-answer ofTest ofTest both ofTest (λ (x : Facts). x) at (λ t u. one-more (rw length-append (omega arith)) (omega arith)) readTest bytes (readTest (drop (at + 1) bytes))
         (λ t rest s. test-sound (drop (at + 1) bytes) t rest s .0) f r (test-is bytes (at + 1) (Read.Found f) p) (test-is bytes (f .end) r q))
 
-    pub test-diamond : getD bytes at 0 ≡ 60 → (f : Facts) (r : Read) → ReadAt walkKind bytes (at + 1) (Read.Found f) → ReadAt testKind bytes (f .end) r
+    test-diamond : getD bytes at 0 ≡ 60 → (f : Facts) (r : Read) → ReadAt walkKind bytes (at + 1) (Read.Found f) → ReadAt testKind bytes (f .end) r
         → ReadAt testKind bytes at (besideOf (insideOf f) r)
     unfolding testText testDepth testNames
     test-diamond e f r p q =
@@ -266,19 +324,117 @@ module _ (bytes : List ℕ) (at : ℕ) where
         (pair-answer ofWalk ofTest diamond ofTest insideOf at (λ w t. one-more (rw length-append (omega arith)) (omega arith)) readTest bytes (readWalk (drop (at + 1) bytes))
         (λ w rest s. walk-sound (drop (at + 1) bytes) w rest s .0) f r (walk-is bytes (at + 1) (Read.Found f) p) (test-is bytes (f .end) r q))
 
-    pub test-both-none : getD bytes at 0 ≡ 38 → ReadAt testKind bytes (at + 1) Read.Refused → ReadAt testKind bytes at Read.Refused
+    test-both-none : getD bytes at 0 ≡ 38 → ReadAt testKind bytes (at + 1) Read.Refused → ReadAt testKind bytes at Read.Refused
     test-both-none e p =
         test-meets bytes at _ (test-at bytes at 38 h e) Read.Refused
         (first-refused ofTest ofTest at _ (readTest (drop (at + 1) bytes)) (test-is bytes (at + 1) Read.Refused p))
 
-    pub test-diamond-none : getD bytes at 0 ≡ 60 → ReadAt walkKind bytes (at + 1) Read.Refused → ReadAt testKind bytes at Read.Refused
+    test-diamond-none : getD bytes at 0 ≡ 60 → ReadAt walkKind bytes (at + 1) Read.Refused → ReadAt testKind bytes at Read.Refused
     test-diamond-none e p =
         test-meets bytes at _ (test-at bytes at 60 h e) Read.Refused
         (first-refused ofWalk ofTest at _ (readWalk (drop (at + 1) bytes)) (walk-is bytes (at + 1) Read.Refused p))
 
-    pub test-strange : NoTestSign (getD bytes at 0) → ReadAt testKind bytes at Read.Refused
-    test-strange n =
-        test-meets bytes at bad (test-at bytes at (getD bytes at 0) h refl ∙ ap (λ (s : Shape Test). readBy s readWalk readTest (drop (at + 1) bytes)) (no-test-sign (getD bytes at 0) n)) Read.Refused refl
+-- The same by the table of signs: what a reader answers of a sign, from what it answers of what follows.
+module _ (bytes : List ℕ) (at : ℕ) (h : at < length bytes) where
+  abbrev sign : ℕ
+  sign = getD bytes at 0
+
+  pub walk-alone : Step ≡ signOf sign → ReadAt walkKind bytes at (leafOf (at + 1) (turnsBack sign))
+  unfolding turnsBack
+  walk-alone s = go (sign-is s) refl
+    where
+      go : {b : ℕ} → SignIs b Step → sign ≡ b → ReadAt walkKind bytes at (leafOf (at + 1) (turnsBack sign))
+      go next-sign e = rw e (walk-next bytes at h e)
+      go prev-sign e = rw e (walk-prev bytes at h e)
+
+  pub walk-named : NamedStep ≡ signOf sign → (n : Digits) → NumberAt bytes (at + 1) n → ReadAt walkKind bytes at (stepOf n (at + 3) (turnsBack sign))
+  unfolding turnsBack
+  walk-named s n p = go (sign-is s) refl
+    where
+      go : {b : ℕ} → SignIs b NamedStep → sign ≡ b → ReadAt walkKind bytes at (stepOf n (at + 3) (turnsBack sign))
+      go act-sign e = rw e (walk-act bytes at h e n p)
+      go undo-sign e = rw e (walk-undo bytes at h e n p)
+
+  pub walk-over-walk : OverWalk ≡ signOf sign → (p : Read) → ReadAt walkKind bytes (at + 1) p → ReadAt walkKind bytes at (aboveOf p (turnsBack sign))
+  unfolding turnsBack
+  walk-over-walk s p q = go (sign-is s) refl
+    where
+      go : {b : ℕ} → SignIs b OverWalk → sign ≡ b → ReadAt walkKind bytes at (aboveOf p (turnsBack sign))
+      go star-sign e = rw e (walk-star bytes at h e p q)
+      go conv-sign e = rw e (walk-conv bytes at h e p q)
+
+  pub walk-over-test : OverTest ≡ signOf sign → (p : Read) → ReadAt testKind bytes (at + 1) p → ReadAt walkKind bytes at (aboveOf p false)
+  walk-over-test s p q = go (sign-is s) refl
+    where
+      go : {b : ℕ} → SignIs b OverTest → sign ≡ b → ReadAt walkKind bytes at (aboveOf p false)
+      go check-sign e = walk-check bytes at h e p q
+
+  pub walk-two : TwoWalks ≡ signOf sign → (f : Facts) (r : Read) → ReadAt walkKind bytes (at + 1) (Read.Found f) → ReadAt walkKind bytes (f .end) r
+      → ReadAt walkKind bytes at (besideOf f r)
+  walk-two s f r p q = go (sign-is s) refl
+    where
+      go : {b : ℕ} → SignIs b TwoWalks → sign ≡ b → ReadAt walkKind bytes at (besideOf f r)
+      go seq-sign e = walk-seq bytes at h e f r p q
+      go alt-sign e = walk-alt bytes at h e f r p q
+
+  pub walk-two-none : TwoWalks ≡ signOf sign → ReadAt walkKind bytes (at + 1) Read.Refused → ReadAt walkKind bytes at Read.Refused
+  walk-two-none s p = go (sign-is s) refl
+    where
+      go : {b : ℕ} → SignIs b TwoWalks → sign ≡ b → ReadAt walkKind bytes at Read.Refused
+      go seq-sign e = walk-pair-none bytes at h 59 _ (walk-at bytes at 59 h e) p
+      go alt-sign e = walk-pair-none bytes at h 124 _ (walk-at bytes at 124 h e) p
+
+  pub walk-strange : (s : Sign) → s ≡ signOf sign → NoWalk s → ReadAt walkKind bytes at Read.Refused
+  walk-strange s e n =
+      walk-meets bytes at bad (walk-at bytes at sign h refl ∙ ap (λ (y : Shape Walk). readBy y readWalk readTest (drop (at + 1) bytes)) (unread-as-walk (sign-is e) n)) Read.Refused refl
+
+  pub test-constant : Constant ≡ signOf sign → ReadAt testKind bytes at (leafOf (at + 1) false)
+  test-constant s = go (sign-is s) refl
+    where
+      go : {b : ℕ} → SignIs b Constant → sign ≡ b → ReadAt testKind bytes at (leafOf (at + 1) false)
+      go always-sign e = test-always bytes at h e
+
+  pub test-named : NamedFluent ≡ signOf sign → (n : Digits) → NumberAt bytes (at + 1) n → ReadAt testKind bytes at (fluentOf n (at + 3))
+  test-named s n p = go (sign-is s) refl
+    where
+      go : {b : ℕ} → SignIs b NamedFluent → sign ≡ b → ReadAt testKind bytes at (fluentOf n (at + 3))
+      go fluent-sign e = test-fluent bytes at h e n p
+
+  pub test-denial : Denial ≡ signOf sign → (p : Read) → ReadAt testKind bytes (at + 1) p → ReadAt testKind bytes at (aboveOf p false)
+  test-denial s p q = go (sign-is s) refl
+    where
+      go : {b : ℕ} → SignIs b Denial → sign ≡ b → ReadAt testKind bytes at (aboveOf p false)
+      go neg-sign e = test-neg bytes at h e p q
+
+  pub test-two : TwoTests ≡ signOf sign → (f : Facts) (r : Read) → ReadAt testKind bytes (at + 1) (Read.Found f) → ReadAt testKind bytes (f .end) r
+      → ReadAt testKind bytes at (besideOf f r)
+  test-two s f r p q = go (sign-is s) refl
+    where
+      go : {b : ℕ} → SignIs b TwoTests → sign ≡ b → ReadAt testKind bytes at (besideOf f r)
+      go both-sign e = test-both bytes at h e f r p q
+
+  pub test-two-none : TwoTests ≡ signOf sign → ReadAt testKind bytes (at + 1) Read.Refused → ReadAt testKind bytes at Read.Refused
+  test-two-none s p = go (sign-is s) refl
+    where
+      go : {b : ℕ} → SignIs b TwoTests → sign ≡ b → ReadAt testKind bytes at Read.Refused
+      go both-sign e = test-both-none bytes at h e p
+
+  pub test-walk : WalkThenTest ≡ signOf sign → (f : Facts) (r : Read) → ReadAt walkKind bytes (at + 1) (Read.Found f) → ReadAt testKind bytes (f .end) r
+      → ReadAt testKind bytes at (besideOf (insideOf f) r)
+  test-walk s f r p q = go (sign-is s) refl
+    where
+      go : {b : ℕ} → SignIs b WalkThenTest → sign ≡ b → ReadAt testKind bytes at (besideOf (insideOf f) r)
+      go diamond-sign e = test-diamond bytes at h e f r p q
+
+  pub test-walk-none : WalkThenTest ≡ signOf sign → ReadAt walkKind bytes (at + 1) Read.Refused → ReadAt testKind bytes at Read.Refused
+  test-walk-none s p = go (sign-is s) refl
+    where
+      go : {b : ℕ} → SignIs b WalkThenTest → sign ≡ b → ReadAt testKind bytes at Read.Refused
+      go diamond-sign e = test-diamond-none bytes at h e p
+
+  pub test-strange : (s : Sign) → s ≡ signOf sign → NoTest s → ReadAt testKind bytes at Read.Refused
+  test-strange s e n =
+      test-meets bytes at bad (test-at bytes at sign h refl ∙ ap (λ (y : Shape Test). readBy y readWalk readTest (drop (at + 1) bytes)) (unread-as-test (sign-is e) n)) Read.Refused refl
 
 -- Bounds of what is found: a rule has a depth, and no more of it than bytes.
 abbrev Deep : ℕ → List ℕ → Type 0
@@ -328,3 +484,30 @@ found-within kind bytes at f (r, rest, o, e) =
 pub depth-within : (kind : Kind) (bytes : List ℕ) (at : ℕ) (r : Read) → ReadAt kind bytes at r → depthIn r ≤ length bytes - at
 depth-within kind bytes at Read.Refused h = omega arith
 depth-within kind bytes at (Read.Found f) h = found-within kind bytes at f h .deep
+
+-- What the readers know where they have read a sign: it lies within a text that is short enough, of which so much is left.
+pub record Place (bytes : List ℕ) (at left : ℕ) : Type 0 where
+  pub inside : at < length bytes
+  pub short : length bytes ≤ textLimit
+  pub rest : length bytes - at ≡ left
+
+module _ {bytes : List ℕ} {at left : ℕ} (p : Place bytes at left) where
+  -- a part that begins behind the sign may be read: less is left there, and the text is as short
+  pub later : (k : ℕ) → at < k → (length bytes - k < left) × (length bytes ≤ textLimit)
+  later k past = (omega (arith, p .inside, p .rest), p .short)
+
+  -- the next place is within the limit, and a sum with the number's bytes fits
+  pub next-low : at + 1 ≤ textLimit
+  next-low = omega (arith, p .inside, p .short)
+
+  -- what is found behind the sign leaves room for one level more
+  pub shallow : (kind : Kind) (k : ℕ) (r : Read) → at < k → ReadAt kind bytes k r → depthIn r < textLimit
+  shallow kind k r past h = omega (arith, depth-within kind bytes k r h, p .inside, p .short)
+
+  -- so do two parts, of which the first is found
+  pub first-past : (kind : Kind) (f : Facts) → ReadAt kind bytes (at + 1) (Read.Found f) → at < f .end
+  first-past kind f h = omega (arith, found-within kind bytes (at + 1) f h .past)
+
+  pub both-shallow : (kind kind′ : Kind) (f : Facts) (r : Read) → ReadAt kind bytes (at + 1) (Read.Found f) → ReadAt kind′ bytes (f .end) r
+      → (f .depth < textLimit) × (depthIn r < textLimit)
+  both-shallow kind kind′ f r h i = (shallow kind (at + 1) (Read.Found f) (omega arith) h, shallow kind′ (f .end) r (first-past kind f h) i)

@@ -1,3 +1,4 @@
+pub mod SignTable
 pub mod Numbers
 pub mod Answers
 pub mod Outcomes

@@ -2,14 +2,16 @@
 use mathlib.Core.Path.{_≡_, sym, ap, subst, _∙_}
 use mathlib.Core.List.{List, _∷_, _++_, append-assoc}
 use Prim.Native.Nat.{ℕ, _+_, _≤_, _<_}
-use native.Mathlib.Nat.{add-zero}
 use native.Mathlib.Omega.{arith}
 use lib.ListN.{length, drop, getD, length-drop, length-append}
-use lib.Seq.{drop-drop, drop-append-seam, getD-drop}
-use Rattle.meaning.specs.Limits.{twoDigits}
+use lib.Seq.{drop-drop, drop-append-seam}
+use Rattle.meaning.specs.Limits.{numberLimit}
 use Rattle.meaning.specs.Rule.{Walk, Test, Rule, act, undo, next, prev, seq, alt, star, check, conv, always, fluent, neg, both, diamond}
-use Rattle.meaning.specs.Rule.{ofTest, ofWalk, text, walkText, testText, walkNames, actionsIn, fluentsIn, digits}
-use Rattle.rule.specs.Standing.{Stands, NumberAt}
+use Rattle.meaning.specs.Rule.{ofTest, ofWalk, text, walkText, testText, walkNames, actionsIn, fluentsIn}
+use Rattle.spelling.specs.declared.Digits.the-variants.{Number}
+use Rattle.spelling.specs.Scan.{NumberAt}
+use Rattle.rule.specs.Standing.{Stands}
+use Rattle.rule.proofs.Numbers.{byte, number-there}
 
 -- a rule has a byte at least, and stands within the text
 pub some-text : (r : Rule) → 0 < length (text r)
@@ -37,8 +39,8 @@ within {r = r} h = omega (arith, some-text r, inside h)
 
 -- The sign at a place and the rule that stands there: what its parts are, and where they stand. One row for each sign of the two tables.
 pub data Spread (bytes : List ℕ) (at : ℕ) : ℕ → Rule → Type 0 where
-  act-at : (a : ℕ) → NumberAt bytes (at + 1) a → Spread bytes at 97 (ofWalk (act a))
-  undo-at : (a : ℕ) → NumberAt bytes (at + 1) a → Spread bytes at 114 (ofWalk (undo a))
+  act-at : (a : ℕ) → NumberAt bytes (at + 1) (Number a) → Spread bytes at 97 (ofWalk (act a))
+  undo-at : (a : ℕ) → NumberAt bytes (at + 1) (Number a) → Spread bytes at 114 (ofWalk (undo a))
   next-at : Spread bytes at 110 (ofWalk next)
   prev-at : Spread bytes at 117 (ofWalk prev)
   seq-at : (v w : Walk) → Stands bytes (at + 1) (ofWalk v) → Stands bytes (at + 1 + length (walkText v)) (ofWalk w) → Spread bytes at 59 (ofWalk (seq v w))
@@ -47,16 +49,12 @@ pub data Spread (bytes : List ℕ) (at : ℕ) : ℕ → Rule → Type 0 where
   check-at : (t : Test) → Stands bytes (at + 1) (ofTest t) → Spread bytes at 63 (ofWalk (check t))
   conv-at : (w : Walk) → Stands bytes (at + 1) (ofWalk w) → Spread bytes at 45 (ofWalk (conv w))
   always-at : Spread bytes at 49 (ofTest always)
-  fluent-at : (i : ℕ) → NumberAt bytes (at + 1) i → Spread bytes at 102 (ofTest (fluent i))
+  fluent-at : (i : ℕ) → NumberAt bytes (at + 1) (Number i) → Spread bytes at 102 (ofTest (fluent i))
   neg-at : (t : Test) → Stands bytes (at + 1) (ofTest t) → Spread bytes at 33 (ofTest (neg t))
   both-at : (t u : Test) → Stands bytes (at + 1) (ofTest t) → Stands bytes (at + 1 + length (testText t)) (ofTest u) → Spread bytes at 38 (ofTest (both t u))
   diamond-at : (w : Walk) (t : Test) → Stands bytes (at + 1) (ofWalk w) → Stands bytes (at + 1 + length (walkText w)) (ofTest t) → Spread bytes at 60 (ofTest (diamond w t))
 
 module _ (bytes : List ℕ) (at : ℕ) where
-  -- the byte there, and what follows it
-  byte : {b : ℕ} {ys : List ℕ} → drop at bytes ≡ b ∷ ys → getD bytes at 0 ≡ b
-  byte e = ap (λ (i : ℕ). getD bytes i 0) (sym (add-zero at)) ∙ sym (getD-drop at bytes 0 0) ∙ ap (λ (l : List ℕ). getD l 0 0) e
-
   onward : {b : ℕ} {ys : List ℕ} → drop at bytes ≡ b ∷ ys → drop (at + 1) bytes ≡ ys
   onward e = sym (drop-drop 1 at bytes) ∙ ap (drop 1) e
 
@@ -66,18 +64,11 @@ module _ (bytes : List ℕ) (at : ℕ) where
       sym (drop-drop (length xs) at bytes) ∙ ap (drop (length xs)) (e ∙ append-assoc xs ys rest) ∙ drop-append-seam xs (ys ++ rest)
 
 module _ (bytes : List ℕ) (at : ℕ) where
-  number-there : (n : ℕ) (rest : List ℕ) → drop at bytes ≡ digits n ++ rest → NumberAt bytes at n
-  number-there n rest e = record {
-    inside = omega (arith, length-drop at bytes, ap length e);
-    tens = byte bytes at e;
-    ones = byte bytes (at + 1) (onward bytes at e);
-  }
-
   -- one part, and the first and the second of two, whose names are as short
-  part-there : (x : Rule) (rest : List ℕ) → actionsIn x ≤ twoDigits → fluentsIn x ≤ twoDigits → drop at bytes ≡ text x ++ rest → Stands bytes at x
+  part-there : (x : Rule) (rest : List ℕ) → actionsIn x ≤ numberLimit → fluentsIn x ≤ numberLimit → drop at bytes ≡ text x ++ rest → Stands bytes at x
   part-there x rest a f e = record { rest = rest; spells = e; shortActions = a; shortFluents = f }
 
-  parts-there : (x y : Rule) (rest : List ℕ) → actionsIn x ≤ twoDigits → fluentsIn x ≤ twoDigits → actionsIn y ≤ twoDigits → fluentsIn y ≤ twoDigits
+  parts-there : (x y : Rule) (rest : List ℕ) → actionsIn x ≤ numberLimit → fluentsIn x ≤ numberLimit → actionsIn y ≤ numberLimit → fluentsIn y ≤ numberLimit
       → drop at bytes ≡ (text x ++ text y) ++ rest → Stands bytes at x × Stands bytes (at + length (text x)) y
   parts-there x y rest a f b g e = (
     record { rest = text y ++ rest; spells = e ∙ append-assoc (text x) (text y) rest; shortActions = a; shortFluents = f },
@@ -90,8 +81,8 @@ module _ (bytes : List ℕ) (at : ℕ) where
 
   spreads : (r : Rule) → Stands bytes at r → Spread bytes at (getD bytes at 0) r
   unfolding walkText walkNames
-  spreads (ofWalk (act a)) h = found (h .spells) (act-at a (number-there bytes (at + 1) a (h .rest) (onward bytes at (h .spells))))
-  spreads (ofWalk (undo a)) h = found (h .spells) (undo-at a (number-there bytes (at + 1) a (h .rest) (onward bytes at (h .spells))))
+  spreads (ofWalk (act a)) h = found (h .spells) (act-at a (number-there bytes (at + 1) a (h .rest) (omega (arith, h .shortActions)) (onward bytes at (h .spells))))
+  spreads (ofWalk (undo a)) h = found (h .spells) (undo-at a (number-there bytes (at + 1) a (h .rest) (omega (arith, h .shortActions)) (onward bytes at (h .spells))))
   spreads (ofWalk next) h = found (h .spells) next-at
   spreads (ofWalk prev) h = found (h .spells) prev-at
   spreads (ofWalk (seq v w)) h =
@@ -104,7 +95,7 @@ module _ (bytes : List ℕ) (at : ℕ) where
   spreads (ofWalk (check t)) h = found (h .spells) (check-at t (part-there bytes (at + 1) (ofTest t) (h .rest) (h .shortActions) (h .shortFluents) (onward bytes at (h .spells))))
   spreads (ofWalk (conv w)) h = found (h .spells) (conv-at w (part-there bytes (at + 1) (ofWalk w) (h .rest) (h .shortActions) (h .shortFluents) (onward bytes at (h .spells))))
   spreads (ofTest always) h = found (h .spells) always-at
-  spreads (ofTest (fluent i)) h = found (h .spells) (fluent-at i (number-there bytes (at + 1) i (h .rest) (onward bytes at (h .spells))))
+  spreads (ofTest (fluent i)) h = found (h .spells) (fluent-at i (number-there bytes (at + 1) i (h .rest) (omega (arith, h .shortFluents)) (onward bytes at (h .spells))))
   spreads (ofTest (neg t)) h = found (h .spells) (neg-at t (part-there bytes (at + 1) (ofTest t) (h .rest) (h .shortActions) (h .shortFluents) (onward bytes at (h .spells))))
   spreads (ofTest (both t u)) h =
       let (p, q) = parts-there bytes (at + 1) (ofTest t) (ofTest u) (h .rest) (omega arith) (omega arith) (omega arith) (omega arith) (onward bytes at (h .spells)) in

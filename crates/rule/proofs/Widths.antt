@@ -2,56 +2,21 @@
 use mathlib.Core.Path.{_≡_, refl, sym, ap, subst⁻¹, _∙_}
 use mathlib.Core.Logic.{_⊎_, inl, inr, ⊎-elim}
 use mathlib.Core.List.{List, [], _∷_, _++_, append-assoc}
-use Prim.Native.Nat.{ℕ, zero, suc, _+_, _-_, _≤_, _<_}
+use Prim.Native.Nat.{ℕ, zero, suc, _+_, _-_, _≤_, _<_, min}
 use native.Mathlib.Omega.{arith}
 use native.Mathlib.Decide.{decLe, decLt, ℕ-discrete}
 use lib.ListN.{length, drop, getD, set, replicate, length-drop, length-append, length-set, length-replicate}
 use lib.Seq.{drop-drop, drop-length, drop-append-seam, getD-set-same, getD-set-other, ext-getD}
-use borrow.Author.Tests.{ne-eqb}
 use Rattle.meaning.specs.Limits.{textLimit}
 use Rattle.meaning.specs.Rule.{Walk, Test, act, undo, next, prev, seq, alt, star, check, conv, always, fluent, neg, both, diamond, walkText, testText, ofTest, ofWalk, text}
 use Rattle.meaning.specs.Rule as meaning
-use Rattle.rule.specs.declared.ends.Follow.{Follow}
-use Rattle.rule.specs.declared.ends.Follow.the-variants.{Nothing, Digits, Rule, Rules}
+use Rattle.rule.specs.declared.signs.Sign.{Sign}
+use Rattle.rule.specs.declared.signs.Sign.the-variants.{Step, NamedStep, OverWalk, OverTest, TwoWalks, Constant, NamedFluent, Denial, TwoTests, WalkThenTest, Stranger}
+use Rattle.rule.specs.Signs.{signOf}
 use Rattle.rule.specs.Standing.{Stands, Ends}
-use Rattle.rule.specs.Ends.{followOf, widthBy, widths, endAt, TableFrom, Filled, FillOutcome}
-use Rattle.rule.proofs.Numbers.{here}
+use Rattle.rule.specs.Ends.{oneRule, twoRules, widthBy, widths, endAt, TableFrom, Filled, FillOutcome}
+use Rattle.spelling.proofs.TwoDigits.{here}
 use Rattle.rule.proofs.Answers.{text-some}
-
--- What follows a sign, as the code finds it out.
-pub digits-follow : (b : ℕ) → (b ≡ 97) ⊎ ((b ≡ 102) ⊎ (b ≡ 114)) → Digits ≡ followOf b
-unfolding followOf
-digits-follow b = ⊎-elim (λ e. ap followOf (sym e)) (⊎-elim (λ e. ap followOf (sym e)) (λ e. ap followOf (sym e)))
-
-pub rule-follows : (b : ℕ) → (b ≡ 33) ⊎ ((b ≡ 42) ⊎ ((b ≡ 45) ⊎ (b ≡ 63))) → Rule ≡ followOf b
-unfolding followOf
-rule-follows b = ⊎-elim (λ e. ap followOf (sym e)) (⊎-elim (λ e. ap followOf (sym e)) (⊎-elim (λ e. ap followOf (sym e)) (λ e. ap followOf (sym e))))
-
-pub walks-follow : (b : ℕ) → (b ≡ 59) ⊎ (b ≡ 124) → Rules ≡ followOf b
-unfolding followOf
-walks-follow b = ⊎-elim (λ e. ap followOf (sym e)) (λ e. ap followOf (sym e))
-
-pub tests-follow : (b : ℕ) → (b ≡ 38) ⊎ (b ≡ 60) → Rules ≡ followOf b
-unfolding followOf
-tests-follow b = ⊎-elim (λ e. ap followOf (sym e)) (λ e. ap followOf (sym e))
-
-pub nothing-follows : (b : ℕ) → ((b ≡ 97) ⊎ ((b ≡ 102) ⊎ (b ≡ 114)) → ⊥) → ((b ≡ 33) ⊎ ((b ≡ 42) ⊎ ((b ≡ 45) ⊎ (b ≡ 63))) → ⊥)
-    → ((b ≡ 59) ⊎ (b ≡ 124) → ⊥) → ((b ≡ 38) ⊎ (b ≡ 60) → ⊥) → Nothing ≡ followOf b
-unfolding followOf
-nothing-follows b d r w t =
-    simp (
-      ne-eqb b 97 (λ e. d (inl e)),
-      ne-eqb b 102 (λ e. d (inr (inl e))),
-      ne-eqb b 114 (λ e. d (inr (inr e))),
-      ne-eqb b 33 (λ e. r (inl e)),
-      ne-eqb b 42 (λ e. r (inr (inl e))),
-      ne-eqb b 45 (λ e. r (inr (inr (inl e)))),
-      ne-eqb b 63 (λ e. r (inr (inr (inr e)))),
-      ne-eqb b 59 (λ e. w (inl e)),
-      ne-eqb b 124 (λ e. w (inr e)),
-      ne-eqb b 38 (λ e. t (inl e)),
-      ne-eqb b 60 (λ e. t (inr e)),
-    )
 
 -- Widths.
 abbrev width : List ℕ → ℕ
@@ -69,96 +34,122 @@ widths-inside : (l : List ℕ) (n : ℕ) → n ≤ length l → n + getD (widths
 unfolding widths
 widths-inside [] zero h = omega arith
 widths-inside [] (suc n) h = absurd (omega arith)
-widths-inside (b ∷ l) zero h = go (followOf b) (widths-inside l 0 (omega arith)) (widths-inside l (width l))
+widths-inside (b ∷ l) zero h = go (signOf b) (widths-inside l 0 (omega arith)) (widths-inside l (width l))
   where
-    go : (f : Follow) → 0 + width l ≤ length l → (width l ≤ length l → width l + getD (widths l) (width l) 0 ≤ length l) → 0 + widthBy f (suc (length l)) (widths l) ≤ suc (length l)
-    go Nothing one two = omega arith
-    go Digits one two = omega arith
-    go Rule one two = omega arith
-    go Rules one two = omega (arith, two (omega arith))
+    go : (f : Sign) → 0 + width l ≤ length l → (width l ≤ length l → width l + getD (widths l) (width l) 0 ≤ length l) → 0 + widthBy f (suc (length l)) (widths l) ≤ suc (length l)
+    go Step one two = omega arith
+    go NamedStep one two = omega arith
+    go OverWalk one two = omega arith
+    go OverTest one two = omega arith
+    go TwoWalks one two = omega (arith, two (omega arith))
+    go Constant one two = omega arith
+    go NamedFluent one two = omega arith
+    go Denial one two = omega arith
+    go TwoTests one two = omega (arith, two (omega arith))
+    go WalkThenTest one two = omega (arith, two (omega arith))
+    go Stranger one two = omega arith
 widths-inside (b ∷ l) (suc n) h = omega (arith, widths-inside l n (omega arith))
 
--- The end at a place, by what follows its sign and by the ends after it.
+-- How wide a sign is, with what follows it: alone, with a number, over one rule, over two.
+abbrev pub Alone : Sign → Type 0
+Alone s = (left : ℕ) (after : List ℕ) → widthBy s left after ≡ 1
+
+abbrev pub Named : Sign → Type 0
+Named s = (left : ℕ) (after : List ℕ) → widthBy s left after ≡ min 3 left
+
+abbrev pub OverOne : Sign → Type 0
+OverOne s = (left : ℕ) (after : List ℕ) → widthBy s left after ≡ oneRule after
+
+abbrev pub OverTwo : Sign → Type 0
+OverTwo s = (left : ℕ) (after : List ℕ) → widthBy s left after ≡ twoRules after
+
+-- The end at a place, by its sign and by the ends after it.
 module _ (bytes : List ℕ) (at : ℕ) where
   pub end-inside : at ≤ length bytes → endAt bytes at ≤ length bytes
   end-inside h = omega (arith, widths-inside (drop at bytes) 0 (omega arith), length-drop at bytes)
 
-  module _ (h : at < length bytes) where
-    end-by : (f : Follow) → f ≡ followOf (getD bytes at 0) → endAt bytes at ≡ at + widthBy f (suc (length (drop (at + 1) bytes))) (widths (drop (at + 1) bytes))
+  module _ (h : at < length bytes) (s : Sign) (e : s ≡ signOf (getD bytes at 0)) where
+    abbrev left : ℕ
+    left = suc (length (drop (at + 1) bytes))
+
+    abbrev after : List ℕ
+    after = widths (drop (at + 1) bytes)
+
+    end-by : endAt bytes at ≡ at + widthBy s left after
     unfolding widths
-    end-by f e =
-        ap (λ (l : List ℕ). at + width l) (here bytes at h) ∙ ap (λ (x : Follow). at + widthBy x (suc (length (drop (at + 1) bytes))) (widths (drop (at + 1) bytes))) (sym e)
+    end-by = ap (λ (l : List ℕ). at + width l) (here bytes at h) ∙ ap (λ (x : Sign). at + widthBy x left after) (sym e)
 
-    pub end-leaf : Nothing ≡ followOf (getD bytes at 0) → at + 1 ≡ endAt bytes at
-    end-leaf e = sym (end-by Nothing e)
+    pub end-leaf : Alone s → at + 1 ≡ endAt bytes at
+    end-leaf w = omega (arith, end-by, w left after)
 
-    pub end-digits : Digits ≡ followOf (getD bytes at 0) → at + 3 ≤ length bytes → at + 3 ≡ endAt bytes at
-    end-digits e l = omega (arith, end-by Digits e, length-drop (at + 1) bytes)
+    pub end-digits : Named s → at + 3 ≤ length bytes → at + 3 ≡ endAt bytes at
+    end-digits w l = omega (arith, end-by, w left after, length-drop (at + 1) bytes)
 
-    pub end-cut : Digits ≡ followOf (getD bytes at 0) → length bytes < at + 3 → length bytes ≡ endAt bytes at
-    end-cut e l = omega (arith, end-by Digits e, length-drop (at + 1) bytes)
+    pub end-cut : Named s → length bytes < at + 3 → length bytes ≡ endAt bytes at
+    end-cut w l = omega (arith, end-by, w left after, length-drop (at + 1) bytes)
 
-    pub end-rule : Rule ≡ followOf (getD bytes at 0) → endAt bytes (at + 1) ≡ endAt bytes at
-    end-rule e = omega (arith, end-by Rule e)
+    end-rule : OverOne s → endAt bytes (at + 1) ≡ endAt bytes at
+    end-rule w = omega (arith, end-by, w left after)
 
-    pub end-rules : Rules ≡ followOf (getD bytes at 0) → endAt bytes (endAt bytes (at + 1)) ≡ endAt bytes at
-    end-rules e =
+    end-rules : OverTwo s → endAt bytes (endAt bytes (at + 1)) ≡ endAt bytes at
+    end-rules w =
         let l = drop (at + 1) bytes in
         let inside = widths-inside l 0 (omega arith) in
         let there : drop (endAt bytes (at + 1)) bytes ≡ drop (width l) l = sym (drop-drop (width l) (at + 1) bytes) in
         let second : width (drop (endAt bytes (at + 1)) bytes) ≡ getD (widths l) (width l) 0 = ap width there ∙ sym (width-drop l (width l) (omega arith)) in
-        omega (arith, second, end-by Rules e)
+        omega (arith, second, end-by, w left after)
 
 -- and by a table of the ends after it
 module _ (bytes ends : List ℕ) (at : ℕ) (t : TableFrom bytes ends at) where
-  pub table-rule : Rule ≡ followOf (getD bytes at 0) → getD ends (at + 1) 0 ≡ endAt bytes at
-  table-rule e = t .told (at + 1) (omega arith) (omega (arith, t .inside)) ∙ end-rule bytes at (t .inside) e
-
   pub middle-inside : getD ends (at + 1) 0 ≤ length bytes
   middle-inside = omega (arith, t .told (at + 1) (omega arith) (omega (arith, t .inside)), end-inside bytes (at + 1) (omega (arith, t .inside)))
 
-  pub table-rules : Rules ≡ followOf (getD bytes at 0) → getD ends (getD ends (at + 1) 0) 0 ≡ endAt bytes at
-  table-rules e =
-      let middle = t .told (at + 1) (omega arith) (omega (arith, t .inside)) in
-      t .told (getD ends (at + 1) 0) (omega arith) middle-inside ∙ ap (endAt bytes) middle ∙ end-rules bytes at (t .inside) e
+  module _ (s : Sign) (e : s ≡ signOf (getD bytes at 0)) where
+    pub table-rule : OverOne s → getD ends (at + 1) 0 ≡ endAt bytes at
+    table-rule w = t .told (at + 1) (omega arith) (omega (arith, t .inside)) ∙ end-rule bytes at (t .inside) s e w
+
+    pub table-rules : OverTwo s → getD ends (getD ends (at + 1) 0) 0 ≡ endAt bytes at
+    table-rules w =
+        let middle = t .told (at + 1) (omega arith) (omega (arith, t .inside)) in
+        t .told (getD ends (at + 1) 0) (omega arith) middle-inside ∙ ap (endAt bytes) middle ∙ end-rules bytes at (t .inside) s e w
 
 -- Where a rule is spelled, its end is where that rule ends.
-one-wide : (b : ℕ) (x rest : List ℕ) → Rule ≡ followOf b → width (x ++ rest) ≡ length x → width (b ∷ (x ++ rest)) ≡ suc (length x)
+one-wide : (b : ℕ) (x rest : List ℕ) → OverOne (signOf b) → width (x ++ rest) ≡ length x → width (b ∷ (x ++ rest)) ≡ suc (length x)
 unfolding widths
-one-wide b x rest f e = ap (λ (y : Follow). widthBy y (suc (length (x ++ rest))) (widths (x ++ rest))) (sym f) ∙ omega arith
+one-wide b x rest w e = w (suc (length (x ++ rest))) (widths (x ++ rest)) ∙ omega arith
 
-two-wide : (b : ℕ) (x y rest : List ℕ) → Rules ≡ followOf b → width (x ++ (y ++ rest)) ≡ length x → width (y ++ rest) ≡ length y
+two-wide : (b : ℕ) (x y rest : List ℕ) → OverTwo (signOf b) → width (x ++ (y ++ rest)) ≡ length x → width (y ++ rest) ≡ length y
     → width (b ∷ ((x ++ y) ++ rest)) ≡ suc (length (x ++ y))
 unfolding widths
-two-wide b x y rest f p q =
+two-wide b x y rest w p q =
     let l = (x ++ y) ++ rest in
     let same : l ≡ x ++ (y ++ rest) = append-assoc x y rest in
     let first : width l ≡ length x = ap width same ∙ p in
     let inside : length x ≤ length l = omega (arith, ap length same, length-append x (y ++ rest)) in
     let second : getD (widths l) (width l) 0 ≡ length y =
     ap (λ (n : ℕ). getD (widths l) n 0) first ∙ width-drop l (length x) inside ∙ ap (λ (m : List ℕ). width (drop (length x) m)) same ∙ ap width (drop-append-seam x (y ++ rest)) ∙ q in
-    ap (λ (z : Follow). widthBy z (suc (length l)) (widths l)) (sym f) ∙ omega (arith, first, second, length-append x y)
+    w (suc (length l)) (widths l) ∙ omega (arith, first, second, length-append x y)
 
 mutual
-  unfolding walkText widths followOf
+  unfolding walkText widths signOf
 
   walk-wide : (w : Walk) (rest : List ℕ) → width (walkText w ++ rest) ≡ length (walkText w)
   walk-wide (act a) rest = omega arith
   walk-wide (undo a) rest = omega arith
   walk-wide next rest = refl
   walk-wide prev rest = refl
-  walk-wide (seq v w) rest = two-wide 59 (walkText v) (walkText w) rest refl (walk-wide v (walkText w ++ rest)) (walk-wide w rest)
-  walk-wide (alt v w) rest = two-wide 124 (walkText v) (walkText w) rest refl (walk-wide v (walkText w ++ rest)) (walk-wide w rest)
-  walk-wide (star w) rest = one-wide 42 (walkText w) rest refl (walk-wide w rest)
-  walk-wide (check t) rest = one-wide 63 (testText t) rest refl (test-wide t rest)
-  walk-wide (conv w) rest = one-wide 45 (walkText w) rest refl (walk-wide w rest)
+  walk-wide (seq v w) rest = two-wide 59 (walkText v) (walkText w) rest (λ l a. refl) (walk-wide v (walkText w ++ rest)) (walk-wide w rest)
+  walk-wide (alt v w) rest = two-wide 124 (walkText v) (walkText w) rest (λ l a. refl) (walk-wide v (walkText w ++ rest)) (walk-wide w rest)
+  walk-wide (star w) rest = one-wide 42 (walkText w) rest (λ l a. refl) (walk-wide w rest)
+  walk-wide (check t) rest = one-wide 63 (testText t) rest (λ l a. refl) (test-wide t rest)
+  walk-wide (conv w) rest = one-wide 45 (walkText w) rest (λ l a. refl) (walk-wide w rest)
 
   test-wide : (t : Test) (rest : List ℕ) → width (testText t ++ rest) ≡ length (testText t)
   test-wide always rest = refl
   test-wide (fluent i) rest = omega arith
-  test-wide (neg t) rest = one-wide 33 (testText t) rest refl (test-wide t rest)
-  test-wide (both t u) rest = two-wide 38 (testText t) (testText u) rest refl (test-wide t (testText u ++ rest)) (test-wide u rest)
-  test-wide (diamond w t) rest = two-wide 60 (walkText w) (testText t) rest refl (walk-wide w (testText t ++ rest)) (test-wide t rest)
+  test-wide (neg t) rest = one-wide 33 (testText t) rest (λ l a. refl) (test-wide t rest)
+  test-wide (both t u) rest = two-wide 38 (testText t) (testText u) rest (λ l a. refl) (test-wide t (testText u ++ rest)) (test-wide u rest)
+  test-wide (diamond w t) rest = two-wide 60 (walkText w) (testText t) rest (λ l a. refl) (walk-wide w (testText t ++ rest)) (test-wide t rest)
 
 pub walk-end : (bytes : List ℕ) (at : ℕ) (w : Walk) (rest : List ℕ) → drop at bytes ≡ walkText w ++ rest → endAt bytes at ≡ at + length (walkText w)
 walk-end bytes at w rest e = ap (λ (l : List ℕ). at + width l) e ∙ ap (λ (n : ℕ). at + n) (walk-wide w rest)

@@ -1,37 +1,38 @@
 -- Where a rule ends, going by the signs alone: what the table of ends holds. That it is where the rule ends which is spelled there is a theorem (`Widths`).
 use mathlib.Core.Path.{_≡_}
 use mathlib.Core.Logic.{_⊎_}
-use mathlib.Core.Bool.{Bool, true, false, cond}
 use mathlib.Core.List.{List, [], _∷_}
 use Prim.Native.Nat.{ℕ, suc, _+_, _≤_, _<_, min}
-use lib.Dec.{eqb}
 use lib.ListN.{length, drop, getD}
 use Rattle.meaning.specs.Limits.{textLimit}
-use Rattle.rule.specs.declared.ends.Follow.{Follow}
-use Rattle.rule.specs.declared.ends.Follow.the-variants.{Nothing, Digits, Rule, Rules}
+use Rattle.rule.specs.declared.signs.Sign.{Sign}
+use Rattle.rule.specs.declared.signs.Sign.the-variants.{Step, NamedStep, OverWalk, OverTest, TwoWalks, Constant, NamedFluent, Denial, TwoTests, WalkThenTest, Stranger}
+use Rattle.rule.specs.Signs.{signOf}
 
--- one of these bytes
-abbrev pub isOf : List ℕ → ℕ → Bool
-isOf [] b = false
-isOf (x ∷ xs) b = cond (eqb b x) true (isOf xs b)
+-- the width of what stands at the front of so many bytes, by its sign and by the widths from the next place on: alone, with a number, over one rule or two
+abbrev pub oneRule : List ℕ → ℕ
+oneRule after = 1 + getD after 0 0
 
--- what follows a sign: aNN rNN fNN; *W ?T -W !T; ;VW |VW &TU <WT
-unfoldable pub followOf : ℕ → Follow
-followOf b =
-    cond (isOf (97 ∷ (114 ∷ (102 ∷ []))) b) Digits
-    (cond (isOf (42 ∷ (63 ∷ (45 ∷ (33 ∷ [])))) b) Rule (cond (isOf (59 ∷ (124 ∷ (38 ∷ (60 ∷ [])))) b) Rules Nothing))
+abbrev pub twoRules : List ℕ → ℕ
+twoRules after = 1 + getD after 0 0 + getD after (getD after 0 0) 0
 
--- the width of what stands at the front of so many bytes, by what follows its sign and by the widths from the next place on
-abbrev pub widthBy : Follow → ℕ → List ℕ → ℕ
-widthBy Nothing left after = 1
-widthBy Digits left after = min 3 left
-widthBy Rule left after = 1 + getD after 0 0
-widthBy Rules left after = 1 + getD after 0 0 + getD after (getD after 0 0) 0
+abbrev pub widthBy : Sign → ℕ → List ℕ → ℕ
+widthBy Step left after = 1
+widthBy NamedStep left after = min 3 left
+widthBy OverWalk left after = oneRule after
+widthBy OverTest left after = oneRule after
+widthBy TwoWalks left after = twoRules after
+widthBy Constant left after = 1
+widthBy NamedFluent left after = min 3 left
+widthBy Denial left after = oneRule after
+widthBy TwoTests left after = twoRules after
+widthBy WalkThenTest left after = twoRules after
+widthBy Stranger left after = 1
 
 -- the width at each place of a list, and 0 at its end
 unfoldable pub widths : List ℕ → List ℕ
 widths [] = 0 ∷ []
-widths (b ∷ l) = widthBy (followOf b) (suc (length l)) (widths l) ∷ widths l
+widths (b ∷ l) = widthBy (signOf b) (suc (length l)) (widths l) ∷ widths l
 
 -- where the rule at a place ends
 abbrev pub endAt : List ℕ → ℕ → ℕ

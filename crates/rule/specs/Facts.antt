@@ -1,11 +1,11 @@
 -- The facts of a rule, and how they come from those of its parts: what the readers' contracts cite.
 use mathlib.Core.Bool.{Bool, false, _||_}
 use Prim.Native.Nat.{ℕ, _+_, _≤_, _<_, max}
-use Rattle.meaning.specs.Limits.{textLimit, twoDigits}
+use Rattle.meaning.specs.Limits.{textLimit, numberLimit}
 use Rattle.meaning.specs.Rule.{Rule, depth, actionsIn, fluentsIn, backwardIn}
-use Rattle.rule.specs.declared.Facts.{Facts}
+use Rattle.rule.specs.declared.answer.Facts.{Facts}
 use Rattle.rule.specs.declared.answer.Read.{Read}
-use Rattle.rule.specs.declared.number.Number.{Number}
+use Rattle.spelling.specs.declared.Digits.{Digits}
 
 -- the facts of a rule that ends there
 abbrev pub factsOf : ℕ → Rule → Facts
@@ -17,20 +17,20 @@ depthIn Read.Refused = 0
 depthIn (Read.Found f) = f .depth
 
 -- where a number stands: two digits write it, and what it ends ends within a text
-abbrev pub NamedWithin : Number → ℕ → Type 0
-NamedWithin Number.Not end = Unit {0}
-NamedWithin (Number.Is n) end = (n < twoDigits) × (end ≤ textLimit)
+abbrev pub NamedWithin : Digits → ℕ → Type 0
+NamedWithin Digits.Other end = Unit {0}
+NamedWithin (Digits.Number n) end = (n < numberLimit) × (end ≤ textLimit)
 
 abbrev pub leafOf : ℕ → Bool → Read
 leafOf end turn = Read.Found (record { end = end; depth = 1; actions = 0; fluents = 0; backward = turn })
 
-abbrev pub stepOf : Number → ℕ → Bool → Read
-stepOf Number.Not end turn = Read.Refused
-stepOf (Number.Is n) end turn = Read.Found (record { end = end; depth = 1; actions = n + 1; fluents = 0; backward = turn })
+abbrev pub stepOf : Digits → ℕ → Bool → Read
+stepOf Digits.Other end turn = Read.Refused
+stepOf (Digits.Number n) end turn = Read.Found (record { end = end; depth = 1; actions = n + 1; fluents = 0; backward = turn })
 
-abbrev pub fluentOf : Number → ℕ → Read
-fluentOf Number.Not end = Read.Refused
-fluentOf (Number.Is n) end = Read.Found (record { end = end; depth = 1; actions = 0; fluents = n + 1; backward = false })
+abbrev pub fluentOf : Digits → ℕ → Read
+fluentOf Digits.Other end = Read.Refused
+fluentOf (Digits.Number n) end = Read.Found (record { end = end; depth = 1; actions = 0; fluents = n + 1; backward = false })
 
 abbrev pub aboveOf : Read → Bool → Read
 aboveOf Read.Refused turn = Read.Refused

@@ -1,6 +1,7 @@
-pub mod Number
+pub mod Signs
 pub mod Facts
 pub mod Read
 pub mod Outcome
+pub mod Judged
 pub mod Ends
 pub mod Standing

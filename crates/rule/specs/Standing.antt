@@ -1,27 +1,17 @@
--- Where a rule stands in a text, the number behind a sign, and the table of where each rule ends. Knows document 01's text of a rule.
+-- Where a rule stands in a text, and the table of where each rule ends. Knows document 01's text of a rule.
 use mathlib.Core.Path.{_≡_}
 use mathlib.Core.List.{List, _++_}
-use Prim.Native.Nat.{ℕ, _+_, _/_, _%_, _≤_, _<_}
+use Prim.Native.Nat.{ℕ, _+_, _≤_}
 use lib.ListN.{length, drop, getD}
-use Rattle.meaning.specs.Limits.{twoDigits}
+use Rattle.meaning.specs.Limits.{numberLimit}
 use Rattle.meaning.specs.Rule.{Walk, act, undo, next, prev, seq, alt, star, check, conv, Rule, text, actionsIn, fluentsIn}
 
 -- this rule is written at this place of the text; something may follow it
 pub record Stands (bytes : List ℕ) (at : ℕ) (rule : Rule) : Type 0 where
   pub rest : List ℕ
   pub spells : drop at bytes ≡ text rule ++ rest
-  pub shortActions : actionsIn rule ≤ twoDigits
-  pub shortFluents : fluentsIn rule ≤ twoDigits
-
--- the two digits of this number are written at this place; some number's are
-pub record NumberAt (bytes : List ℕ) (at n : ℕ) : Type 0 where
-  pub inside : at + 1 < length bytes
-  pub tens : getD bytes at 0 ≡ 48 + n / 10
-  pub ones : getD bytes (at + 1) 0 ≡ 48 + n % 10
-
-pub record Numbered (bytes : List ℕ) (at : ℕ) : Type 0 where
-  pub number : ℕ
-  pub digits : NumberAt bytes at number
+  pub shortActions : actionsIn rule ≤ numberLimit
+  pub shortFluents : fluentsIn rule ≤ numberLimit
 
 -- the table says of each rule where the text goes on behind it
 pub record Ends (bytes ends : List ℕ) : Type 0 where

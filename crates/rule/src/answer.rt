@@ -1,11 +1,20 @@
-// How the facts of a rule come from those of its parts. Knows no text.
-use crate::Facts;
-use crate::number::Number;
+// The facts of a rule, and how they come from those of its parts. Knows no text.
 ghost use mathlib.Core.Path.{_≡_};
 ghost use mathlib.Core.Bool.{_||_};
 ghost use Prim.Native.Nat.{_≤_, _<_, max};
 ghost use Rattle.meaning.specs.Limits.{textLimit};
 ghost use Rattle.rule.specs.Facts.{depthIn, NamedWithin, leafOf, stepOf, fluentOf, aboveOf, besideOf, insideOf};
+use spelling::Digits;
+
+// What is told of a rule: where it ends, its depth, how many actions and fluents a theory must have to know all that it names, and whether a
+// backward sign stands outside every `<` walk. A byte each: no text is longer than 255, and each call of the readers holds several.
+pub struct Facts {
+    pub end: u8,
+    pub depth: u8,
+    pub actions: u8,
+    pub fluents: u8,
+    pub backward: bool,
+}
 
 // What a reader answers: no rule of its kind stands there, or the facts of the one that does.
 pub enum Read {
@@ -40,13 +49,13 @@ pub(crate) fn leaf(end: usize, turn: bool) -> Read
 }
 
 // A step that names an action.
-pub(crate) fn step(name: Number, end: usize, turn: bool) -> Read
+pub(crate) fn step(name: Digits, end: usize, turn: bool) -> Read
     requires { ⌜ NamedWithin name end ⌝ }
     ensures { λ r. ⌜ r ≡ stepOf name end turn ⌝ }
 {
     match name {
-        Number::Not => Read::Refused,
-        Number::Is(n) => Read::Found(Facts {
+        Digits::Other => Read::Refused,
+        Digits::Number(n) => Read::Found(Facts {
             end: end as u8,
             depth: 1,
             actions: (n as u8) + 1,
@@ -57,13 +66,13 @@ pub(crate) fn step(name: Number, end: usize, turn: bool) -> Read
 }
 
 // A test that names a fluent.
-pub(crate) fn fluent(name: Number, end: usize) -> Read
+pub(crate) fn fluent(name: Digits, end: usize) -> Read
     requires { ⌜ NamedWithin name end ⌝ }
     ensures { λ r. ⌜ r ≡ fluentOf name end ⌝ }
 {
     match name {
-        Number::Not => Read::Refused,
-        Number::Is(n) => Read::Found(Facts {
+        Digits::Other => Read::Refused,
+        Digits::Number(n) => Read::Found(Facts {
             end: end as u8,
             depth: 1,
             actions: 0,

@@ -1,33 +1,12 @@
 // Where each rule of a text ends: a byte for each place, filled from the right. Whoever has read a rule finds by it where a second part begins.
 ghost use mathlib.Core.Path.{_≡_};
-ghost use Prim.Native.Nat.{_<_};
-ghost use lib.ListN.{length};
-ghost use Rattle.rule.specs.Ends.{followOf, TableFrom, endAt, FillOutcome};
+ghost use Rattle.rule.specs.Ends.{TableFrom, endAt, FillOutcome};
 use crate::TEXT_LIMIT;
+use crate::signs::Sign;
+use crate::signs::sign_of;
 
 // A table of a whole text: a byte for each place, and for the end.
 pub const ENDS_ROOM: usize = TEXT_LIMIT + 1;
-
-// What follows a sign: nothing, the two digits of a number, one rule or two.
-pub enum Follow {
-    Nothing,
-    Digits,
-    Rule,
-    Rules,
-}
-
-// What follows a sign, walk's or test's: no byte is a sign of both.
-fn follows(sign: u8) -> Follow
-    ensures { λ r. ⌜ r ≡ followOf sign ⌝ }
-{
-    match sign {
-        b'a' | b'r' | b'f' => Follow::Digits,
-        b'*' | b'?' | b'-' | b'!' => Follow::Rule,
-        b';' | b'|' => Follow::Rules,
-        b'&' | b'<' => Follow::Rules,
-        _ => Follow::Nothing,
-    }
-}
 
 // Where the rule at a place ends, by the ends of those after it. What is no sign ends after itself, a number at the text's end at the latest.
 fn end_at(text: &[u8], ends: &[u8], at: usize) -> u8
@@ -35,9 +14,9 @@ fn end_at(text: &[u8], ends: &[u8], at: usize) -> u8
     ensures { λ r. ⌜ r ≡ endAt (now (text .entry)) at ⌝ }
 {
     let next = at + 1;
-    match follows(text[at]) {
-        Follow::Nothing => next as u8,
-        Follow::Digits => {
+    match sign_of(text[at]) {
+        Sign::Step | Sign::Constant | Sign::Stranger => next as u8,
+        Sign::NamedStep | Sign::NamedFluent => {
             let left = text.len() - at;
             if left < 3 {
                 text.len() as u8
@@ -45,8 +24,8 @@ fn end_at(text: &[u8], ends: &[u8], at: usize) -> u8
                 (at + 3) as u8
             }
         }
-        Follow::Rule => ends[next],
-        Follow::Rules => {
+        Sign::OverWalk | Sign::OverTest | Sign::Denial => ends[next],
+        Sign::TwoWalks | Sign::TwoTests | Sign::WalkThenTest => {
             let middle = ends[next] as usize;
             ends[middle]
         }

@@ -1,19 +1,27 @@
 // Which refusal a rule is given: the counts, then the reading, then what the rule's facts decide. Knows document 01's limits.
-use crate::Checked;
-use crate::Facts;
+ghost use mathlib.Core.List.{[]};
+ghost use Prim.Native.Nat.{_≤_};
+ghost use lib.ListN.{length};
+ghost use Rattle.meaning.specs.Limits.{textLimit};
+ghost use Rattle.rule.specs.Read.{ReadAt};
+ghost use Rattle.rule.specs.Outcome.{kindOf, bytesFrom, PartAt};
+ghost use Rattle.rule.specs.Judged.{OpenedAs, JudgedAs, SurveyedAs};
 use crate::Kind;
 use crate::TEXT_LIMIT;
+use crate::answer::Facts;
 use crate::answer::Read;
 use crate::reader::read_test;
 use crate::reader::read_walk;
 use positions::PositionSet;
 use refusal::Refusal;
+use theory::Counts;
 use theory::faults::bad_counts;
-ghost use Prim.Native.Nat.{_≤_};
-ghost use lib.ListN.{length};
-ghost use Rattle.meaning.specs.Limits.{textLimit};
-ghost use Rattle.rule.specs.Read.{ReadAt};
-ghost use Rattle.rule.specs.Outcome.{kindOf, OpenedAs, JudgedAs, CheckedAs};
+
+// What a rule is found to be: refused, or fit, with its facts.
+pub enum Surveyed {
+    Refused(Refusal),
+    Fits(Facts),
+}
 
 // A job is read as a walk is.
 fn read_kind(text: &[u8], kind: Kind) -> Read
@@ -27,20 +35,35 @@ fn read_kind(text: &[u8], kind: Kind) -> Read
     }
 }
 
-// The rule that opens the text; with `whole`, only if nothing follows it.
+// "hands back the unread rest as a part of the same text": from the first unread byte on.
+pub(crate) fn unread<'a>(text: &'a [u8], f: Facts) -> &'a [u8]
+    requires { ⌜ f .end ≤ length (now text) ⌝ }
+    ensures { λ r. ⌜ PartAt (text .entry) (f .end) (bytesFrom (f .end) (now (text .entry))) r ⌝ }
+{
+    let end = f.end as usize;
+    &text[end..]
+}
+
+// "an empty part where a part is handed back": of the same text still, at its front.
+pub(crate) fn nothing<'a>(text: &'a [u8]) -> &'a [u8]
+    ensures { λ r. ⌜ PartAt (text .entry) 0 [] r ⌝ }
+{
+    &text[..0]
+}
+
+// The rule that opens the text; with `whole`, it fits only when the unread part is empty.
 fn opening(text: &[u8], kind: Kind, whole: bool) -> Read
     ensures { λ r. ⌜ OpenedAs whole (kindOf kind) (now (text .entry)) r ⌝ }
 {
-    let length = text.len();
-    if TEXT_LIMIT < length {
+    if TEXT_LIMIT < text.len() {
         return Read::Refused;
     }
     match read_kind(text, kind) {
         Read::Refused => Read::Refused,
         Read::Found(f) => {
-            let end = f.end as usize;
+            let rest = unread(text, f);
             if whole {
-                if end != length {
+                if 0 < rest.len() {
                     return Read::Refused;
                 }
             }
@@ -50,46 +73,42 @@ fn opening(text: &[u8], kind: Kind, whole: bool) -> Read
 }
 
 // Refusals 7, 8 and 9: what the facts of a rule decide, smallest number first.
-fn judge(f: Facts, kind: Kind, fluents: usize, actions: usize) -> Checked
-    ensures { λ r. ⌜ JudgedAs (kindOf kind) fluents actions f r ⌝ }
+fn judge(f: Facts, kind: Kind, counts: Counts) -> Surveyed
+    ensures { λ r. ⌜ JudgedAs (kindOf kind) counts f r ⌝ }
 {
+    let fluents = counts.fluents;
+    let actions = counts.actions;
     if actions < f.actions as usize {
-        return Checked::Refused(Refusal::LacksName);
+        return Surveyed::Refused(Refusal::LacksName);
     }
     if fluents < f.fluents as usize {
-        return Checked::Refused(Refusal::LacksName);
+        return Surveyed::Refused(Refusal::LacksName);
     }
     if PositionSet::DEPTH_LIMIT < f.depth as usize {
-        return Checked::Refused(Refusal::TooDeep);
+        return Surveyed::Refused(Refusal::TooDeep);
     }
     match kind {
         Kind::Job => {
             if f.backward {
-                Checked::Refused(Refusal::BackwardJob)
+                Surveyed::Refused(Refusal::BackwardJob)
             } else {
-                Checked::Fits(f)
+                Surveyed::Fits(f)
             }
         }
-        Kind::Test => Checked::Fits(f),
-        Kind::Walk => Checked::Fits(f),
+        Kind::Test => Surveyed::Fits(f),
+        Kind::Walk => Surveyed::Fits(f),
     }
 }
 
 // All checks of a rule in the order of their numbers; with `whole`, nothing may follow the rule.
-pub(crate) fn survey(
-    text: &[u8],
-    kind: Kind,
-    fluents: usize,
-    actions: usize,
-    whole: bool,
-) -> Checked
-    ensures { λ r. ⌜ CheckedAs whole (kindOf kind) (now (text .entry)) fluents actions r ⌝ }
+pub(crate) fn survey(text: &[u8], kind: Kind, counts: Counts, whole: bool) -> Surveyed
+    ensures { λ r. ⌜ SurveyedAs whole (kindOf kind) (now (text .entry)) counts r ⌝ }
 {
-    if bad_counts(fluents, actions) {
-        return Checked::Refused(Refusal::BadNumber);
+    if bad_counts(counts) {
+        return Surveyed::Refused(Refusal::BadNumber);
     }
     match opening(text, kind, whole) {
-        Read::Refused => Checked::Refused(Refusal::BadRule),
-        Read::Found(f) => judge(f, kind, fluents, actions),
+        Read::Refused => Surveyed::Refused(Refusal::BadRule),
+        Read::Found(f) => judge(f, kind, counts),
     }
 }

@@ -1,13 +1,17 @@
-// Reads a rule: where it ends, its depth, what it names. Knows the text alone; what a rule means is another crate's.
-mod answer;
-pub mod ends;
-mod judge;
-mod number;
-mod reader;
-
-use refusal::Refusal;
+// Reads a rule: whether it fits, and where it ends. Knows the text alone; what a rule means is another crate's.
 ghost use mathlib.Core.Bool.{true};
-ghost use Rattle.rule.specs.Outcome.{kindOf, ReadOutcome, CheckedAs};
+ghost use Rattle.theory.specs.Check.{Settled};
+ghost use Rattle.rule.specs.Outcome.{kindOf, ruleRows, ReadOutcome};
+
+pub mod signs; // signs.rt: the table of signs
+mod answer; // answer.rt: the facts of a rule
+mod reader; // reader.rt: a walk's reader and a test's
+mod judge; // judge.rt: which refusal a rule is given
+pub mod ends; // ends.rt: where each rule of a text ends
+
+use judge::Surveyed;
+use theory::Check;
+use theory::Counts;
 
 // "1 to 255 bytes"
 pub const TEXT_LIMIT: usize = 255;
@@ -19,48 +23,28 @@ pub enum Kind {
     Job,
 }
 
-// What is told of a rule: where it ends, its depth, how many actions and fluents a theory must have to know all that it names, and whether a
-// backward sign stands outside every `<` walk. A byte each: no text is longer than 255, and each call of the readers holds several.
-pub struct Facts {
-    pub end: u8,
-    pub depth: u8,
-    pub actions: u8,
-    pub fluents: u8,
-    pub backward: bool,
-}
-
-// What a rule is found to be: refused, or fit, with its facts.
-pub enum Checked {
-    Refused(Refusal),
-    Fits(Facts),
-}
-
-// Whether the text is exactly one rule of this kind that the theory knows, and its facts.
-pub fn check_rule(text: &[u8], kind: Kind, fluents: usize, actions: usize) -> Checked
-    ensures { λ r. ⌜ CheckedAs true (kindOf kind) (now (text .entry)) fluents actions r ⌝ }
+// Whether the text is exactly one rule of this kind that the theory knows.
+pub fn check_rule(text: &[u8], kind: Kind, counts: Counts) -> Check
+    ensures { λ r. ⌜ Settled (ruleRows true (kindOf kind) (now (text .entry)) counts) r ⌝ }
 {
-    judge::survey(text, kind, fluents, actions, true)
+    match judge::survey(text, kind, counts, true) {
+        Surveyed::Refused(why) => Check::Refused(why),
+        Surveyed::Fits(_) => Check::Sound,
+    }
 }
 
 // Reads one rule and hands back the unread rest, a part of the same text; `refusal` is the number of the refusal, or 0.
-pub fn read_rule<'a>(
-    text: &'a [u8],
-    kind: Kind,
-    fluents: usize,
-    actions: usize,
-    refusal: &mut u8,
-) -> &'a [u8]
-    ensures { λ r. ⌜ ReadOutcome (kindOf kind) (now (text .entry)) fluents actions (now (refusal .exit)) (now r) ⌝ }
+pub fn read_rule<'a>(text: &'a [u8], kind: Kind, counts: Counts, refusal: &mut u8) -> &'a [u8]
+    ensures { λ r. ⌜ ReadOutcome (kindOf kind) (text .entry) counts (now (refusal .exit)) r ⌝ }
 {
-    match judge::survey(text, kind, fluents, actions, false) {
-        Checked::Refused(why) => {
+    match judge::survey(text, kind, counts, false) {
+        Surveyed::Refused(why) => {
             *refusal = refusal::number(why);
-            &text[..0]
+            judge::nothing(text)
         }
-        Checked::Fits(facts) => {
+        Surveyed::Fits(facts) => {
             *refusal = 0;
-            let end = facts.end as usize;
-            &text[end..]
+            judge::unread(text, facts)
         }
     }
 }

@@ -1,5 +1,10 @@
-// The two readers: a walk's and a test's, which call one another, each on a shorter rest. Each byte is read once.
-// They are given at most 255 bytes, so that each fact of what they find fits a byte.
+// The two readers: a walk's and a test's, which call one another, each on a shorter rest. Each byte is read once, and what follows it is asked of the
+// table of signs. They are given at most 255 bytes, so that each fact of what they find fits a byte.
+ghost use Prim.Native.Nat.{_≤_};
+ghost use lib.ListN.{length};
+ghost use Rattle.meaning.specs.Limits.{textLimit};
+ghost use Rattle.meaning.specs.Rule.{walkKind, testKind};
+ghost use Rattle.rule.specs.Read.{ReadAt};
 use crate::answer::Read;
 use crate::answer::above;
 use crate::answer::beside;
@@ -7,12 +12,10 @@ use crate::answer::fluent;
 use crate::answer::inside;
 use crate::answer::leaf;
 use crate::answer::step;
-use crate::number::number_at;
-ghost use Prim.Native.Nat.{_≤_};
-ghost use lib.ListN.{length};
-ghost use Rattle.meaning.specs.Limits.{textLimit};
-ghost use Rattle.meaning.specs.Rule.{walkKind, testKind};
-ghost use Rattle.rule.specs.Read.{ReadAt};
+use crate::signs::Sign;
+use crate::signs::sign_of;
+use crate::signs::turns;
+use spelling::scan::two_digits;
 
 // The walk that stands at a place of the text.
 pub(crate) fn read_walk(text: &[u8], at: usize) -> Read
@@ -24,12 +27,12 @@ pub(crate) fn read_walk(text: &[u8], at: usize) -> Read
     }
     let next = at + 1;
     let sign = text[at];
-    match sign {
-        b'a' => step(number_at(text, next), at + 3, false),
-        b'r' => step(number_at(text, next), at + 3, true),
-        b'n' => leaf(next, false),
-        b'u' => leaf(next, true),
-        b';' | b'|' => match read_walk(text, next) {
+    match sign_of(sign) {
+        Sign::Step => leaf(next, turns(sign)),
+        Sign::NamedStep => step(two_digits(text, next), at + 3, turns(sign)),
+        Sign::OverWalk => above(read_walk(text, next), turns(sign)),
+        Sign::OverTest => above(read_test(text, next), false),
+        Sign::TwoWalks => match read_walk(text, next) {
             Read::Refused => Read::Refused,
             Read::Found(first) => {
                 let middle = first.end as usize;
@@ -37,9 +40,6 @@ pub(crate) fn read_walk(text: &[u8], at: usize) -> Read
                 beside(first, second)
             }
         },
-        b'*' => above(read_walk(text, next), false),
-        b'?' => above(read_test(text, next), false),
-        b'-' => above(read_walk(text, next), true),
         _ => Read::Refused,
     }
 }
@@ -53,12 +53,11 @@ pub(crate) fn read_test(text: &[u8], at: usize) -> Read
         return Read::Refused;
     }
     let next = at + 1;
-    let sign = text[at];
-    match sign {
-        b'1' => leaf(next, false),
-        b'f' => fluent(number_at(text, next), at + 3),
-        b'!' => above(read_test(text, next), false),
-        b'&' => match read_test(text, next) {
+    match sign_of(text[at]) {
+        Sign::Constant => leaf(next, false),
+        Sign::NamedFluent => fluent(two_digits(text, next), at + 3),
+        Sign::Denial => above(read_test(text, next), false),
+        Sign::TwoTests => match read_test(text, next) {
             Read::Refused => Read::Refused,
             Read::Found(first) => {
                 let middle = first.end as usize;
@@ -66,7 +65,7 @@ pub(crate) fn read_test(text: &[u8], at: usize) -> Read
                 beside(first, second)
             }
         },
-        b'<' => match read_walk(text, next) {
+        Sign::WalkThenTest => match read_walk(text, next) {
             Read::Refused => Read::Refused,
             Read::Found(first) => {
                 let middle = first.end as usize;

@@ -1,8 +1,9 @@
 // Runs the reading of rules on a table of cases and compares: the number and the rest that reading one rule gives, and the number for exactly one
 // rule. One line a case; then a table of ends.
 use libc::STDOUT_FILENO;
-use rule::Checked;
 use rule::Kind;
+use theory::Check;
+use theory::Counts;
 
 fn say(text: &[u8]) {
     io::write_all(STDOUT_FILENO, text);
@@ -18,28 +19,23 @@ fn verdict(good: bool, name: &[u8]) {
     say(b"\n");
 }
 
-fn number_of(checked: Checked) -> u8 {
+fn number_of(checked: Check) -> u8 {
     match checked {
-        Checked::Refused(why) => refusal::number(why),
-        Checked::Fits(_) => 0,
+        Check::Refused(why) => refusal::number(why),
+        Check::Sound => 0,
     }
 }
 
+fn of(fluents: usize, actions: usize) -> Counts {
+    Counts { fluents, actions }
+}
+
 // One row: the call's input, then the number and how many bytes are left over by `read_rule`, and the number by `check_rule`.
-fn row(
-    name: &[u8],
-    text: &[u8],
-    kind: Kind,
-    fluents: usize,
-    actions: usize,
-    read: u8,
-    left: usize,
-    check: u8,
-) {
+fn row(name: &[u8], text: &[u8], kind: Kind, counts: Counts, read: u8, left: usize, check: u8) {
     let mut refusal = 99u8;
-    let rest = rule::read_rule(text, kind, fluents, actions, &mut refusal);
+    let rest = rule::read_rule(text, kind, counts, &mut refusal);
     let over = rest.len();
-    let checked = number_of(rule::check_rule(text, kind, fluents, actions));
+    let checked = number_of(rule::check_rule(text, kind, counts));
     let mut good = true;
     if refusal != read {
         good = false;
@@ -57,35 +53,74 @@ fn lengths_and_depths() {
     let mut deep = [b'!'; 256];
     deep[255] = b'1';
     let all = &deep[..];
-    row(b"0 bytes", &all[256..], Kind::Test, 0, 1, 6, 0, 6);
-    row(b"256 bytes", all, Kind::Test, 0, 1, 6, 0, 6);
-    row(b"254 ! and a 1", &all[1..], Kind::Test, 0, 1, 8, 0, 8);
-    row(b"24 ! and a 1", &all[231..], Kind::Test, 0, 1, 8, 0, 8);
-    row(b"23 ! and a 1", &all[232..], Kind::Test, 0, 1, 0, 0, 0);
+    row(b"0 bytes", &all[256..], Kind::Test, of(0, 1), 6, 0, 6);
+    row(b"256 bytes", all, Kind::Test, of(0, 1), 6, 0, 6);
+    row(b"254 ! and a 1", &all[1..], Kind::Test, of(0, 1), 8, 0, 8);
+    row(b"24 ! and a 1", &all[231..], Kind::Test, of(0, 1), 8, 0, 8);
+    row(b"23 ! and a 1", &all[232..], Kind::Test, of(0, 1), 0, 0, 0);
 }
 
 fn names() {
-    row(b"a6", b"a6", Kind::Walk, 32, 64, 6, 0, 6);
-    row(b"a64 with 64 actions", b"a64", Kind::Walk, 32, 64, 7, 0, 7);
-    row(b"a63 with 64 actions", b"a63", Kind::Walk, 32, 64, 0, 0, 0);
-    row(b"f00 with no fluents", b"f00", Kind::Test, 0, 1, 7, 0, 7);
-    row(b"f31 with 32 fluents", b"f31", Kind::Test, 32, 1, 0, 0, 0);
+    row(b"a6", b"a6", Kind::Walk, of(32, 64), 6, 0, 6);
+    row(
+        b"a64 with 64 actions",
+        b"a64",
+        Kind::Walk,
+        of(32, 64),
+        7,
+        0,
+        7,
+    );
+    row(
+        b"a63 with 64 actions",
+        b"a63",
+        Kind::Walk,
+        of(32, 64),
+        0,
+        0,
+        0,
+    );
+    row(
+        b"f00 with no fluents",
+        b"f00",
+        Kind::Test,
+        of(0, 1),
+        7,
+        0,
+        7,
+    );
+    row(
+        b"f31 with 32 fluents",
+        b"f31",
+        Kind::Test,
+        of(32, 1),
+        0,
+        0,
+        0,
+    );
 }
 
 fn signs() {
-    row(b"bytes over 127", b"\xc3\xa4", Kind::Walk, 32, 64, 6, 0, 6);
     row(
-        b"a digit where a sign is due",
-        b"*7",
+        b"bytes over 127",
+        b"\xc3\xa4",
         Kind::Walk,
-        32,
-        64,
+        of(32, 64),
         6,
         0,
         6,
     );
-    row(b"a walk for a test", b"n", Kind::Test, 32, 64, 6, 0, 6);
-    row(b"a test for a walk", b"1", Kind::Walk, 32, 64, 6, 0, 6);
+    row(
+        b"a digit where a sign is due",
+        b"*7",
+        Kind::Walk,
+        of(32, 64),
+        6,
+        0,
+        6,
+    );
+    row(b"a walk for a test", b"n", Kind::Test, of(32, 64), 6, 0, 6);
+    row(b"a test for a walk", b"1", Kind::Walk, of(32, 64), 6, 0, 6);
 }
 
 fn rests() {
@@ -93,19 +128,17 @@ fn rests() {
         b"the second part missing",
         b";a00",
         Kind::Walk,
-        32,
-        64,
+        of(32, 64),
         6,
         0,
         6,
     );
-    row(b"11", b"11", Kind::Test, 0, 1, 0, 1, 6);
+    row(b"11", b"11", Kind::Test, of(0, 1), 0, 1, 6);
     row(
         b"a rest that is no rule",
         b"<-;a00*n1\xff\xff",
         Kind::Test,
-        0,
-        1,
+        of(0, 1),
         0,
         2,
         6,
@@ -113,33 +146,39 @@ fn rests() {
 }
 
 fn jobs() {
-    row(b"job u", b"u", Kind::Job, 0, 1, 9, 0, 9);
-    row(b"walk u", b"u", Kind::Walk, 0, 1, 0, 0, 0);
-    row(b"job ?<u1", b"?<u1", Kind::Job, 0, 1, 0, 0, 0);
+    row(b"job u", b"u", Kind::Job, of(0, 1), 9, 0, 9);
+    row(b"walk u", b"u", Kind::Walk, of(0, 1), 0, 0, 0);
+    row(b"job ?<u1", b"?<u1", Kind::Job, of(0, 1), 0, 0, 0);
     row(
         b"job with r in a choice",
         b"|a00*r00",
         Kind::Job,
-        0,
-        1,
+        of(0, 1),
         9,
         0,
         9,
     );
-    row(b"job with a converse", b";n-n", Kind::Job, 0, 1, 9, 0, 9);
+    row(
+        b"job with a converse",
+        b";n-n",
+        Kind::Job,
+        of(0, 1),
+        9,
+        0,
+        9,
+    );
 }
 
 fn smallest_first() {
-    row(b"33 fluents", b"a6", Kind::Walk, 33, 64, 3, 0, 3);
-    row(b"no actions", b"1", Kind::Test, 0, 0, 3, 0, 3);
-    row(b"65 actions", b"1", Kind::Test, 0, 65, 3, 0, 3);
-    row(b"7 before 9", b"r05", Kind::Job, 0, 1, 7, 0, 7);
+    row(b"33 fluents", b"a6", Kind::Walk, of(33, 64), 3, 0, 3);
+    row(b"no actions", b"1", Kind::Test, of(0, 0), 3, 0, 3);
+    row(b"65 actions", b"1", Kind::Test, of(0, 65), 3, 0, 3);
+    row(b"7 before 9", b"r05", Kind::Job, of(0, 1), 7, 0, 7);
     row(
         b"a rest is found before a name",
         b"a05n",
         Kind::Walk,
-        0,
-        1,
+        of(0, 1),
         7,
         0,
         6,

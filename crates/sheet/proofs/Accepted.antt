@@ -1,22 +1,30 @@
 -- An accepted sheet is legal: its counts are in range, its table has four masks an action, no mask names a fluent that the theory lacks, its log is
 -- good, and its rules are rules of their kinds without fault.
-use mathlib.Core.Path.{_≡_, refl, sym, ap, _∙_, subst}
+use mathlib.Core.Path.{_≡_, sym, ap, _∙_, subst}
 use mathlib.Core.Logic.{_⊎_, inl, inr, ⊎-elim}
 use mathlib.Core.Bool.{true}
 use mathlib.Core.List.{List, [], _∷_, _++_}
-use Prim.Native.Nat.{ℕ, zero, suc, _+_, _-_, _*_, _≤_, _<_}
+use Prim.Native.Nat.{ℕ, zero, suc, _+_, _-_, _*_, _<_}
 use native.Mathlib.Decide.{decLt}
+use native.Mathlib.Nat.{mul-zero, mul-suc}
 use native.Mathlib.Omega.{arith}
 use lib.ListN.{length, getD, length-append, List·getD-append}
 use lib.Seq.{getD-append-add}
-use Rattle.meaning.specs.Limits.{fluentLimit, actionLimit}
 use Rattle.meaning.specs.Rule.{Kind}
-use Rattle.meaning.specs.Refusal.{Accepted, BadCounts, NamesLacking, OneLacking}
+use Rattle.meaning.specs.Refusal.{Accepted, NamesLacking, OneLacking}
 use Rattle.meaning.proofs.Refusal.{accepts, passes, not-first, not-rest}
 use Rattle.rule.specs.Outcome.{ruleRows}
 use Rattle.sheet.specs.Line.{Judge, Form, Says, judgeRows, lineRows}
-use Rattle.sheet.specs.Forms.{rowOf, startForm, actForm, ruleForm}
-use Rattle.sheet.specs.Lines.{Sheet, Lines, actLines, lastLines, ReadAs, SheetSays}
+use Rattle.sheet.specs.Forms.{startForm, actForm, ruleForm}
+use Rattle.sheet.specs.Lines.{Sheet, Lines, opened, actLines, fromLog, ReadAs, SheetSays}
+use Rattle.sheet.specs.Versions.{sheet1}
+use Rattle.sheet.specs.declared.Version.{Version}
+use Rattle.sheet.specs.Sections.{Ranged}
+use Rattle.meaning.specs.Theory.{stride}
+use Rattle.theory.specs.Subject.{settingOf}
+use Rattle.theory.specs.Rows.{CountsOut}
+use Rattle.theory.specs.declared.Counts.{Counts}
+use Rattle.theory.specs.declared.Setting.{Setting}
 use Rattle.sheet.specs.Legal.{Legal}
 use Rattle.sheet.proofs.Rows.{Clean}
 use Rattle.sheet.proofs.RuleLine.{counts-good}
@@ -52,28 +60,29 @@ lacking-split fluents a b h = go (decLt (h .place) (length a))
         })
 
 -- the table that the lines of the actions leave
-record Table (fluents actions : ℕ) (table : List ℕ) (next : List ℕ → Lines) (bytes : List ℕ) (sheet : Sheet) : Type 0 where
+record Table (v : Version) (fluents actions : ℕ) (table : List ℕ) (next : List ℕ → Lines) (bytes : List ℕ) (sheet : Sheet) : Type 0 where
   masks : List ℕ
-  long : length masks ≡ length table + 4 * actions
+  long : length masks ≡ length table + v .masks * actions
   known : OneLacking fluents masks → ⊥
   at : ℕ
   reads : ReadAs (next masks) bytes at sheet
 
 acts-table :
-    (fluents actions : ℕ) (table : List ℕ) (next : List ℕ → Lines) (bytes : List ℕ) (at : ℕ) (sheet : Sheet) → (OneLacking fluents table → ⊥)
-    → ReadAs (actLines fluents actions table next) bytes at sheet → Table fluents actions table next bytes sheet
+    (v : Version) (fluents actions : ℕ) (table : List ℕ) (next : List ℕ → Lines) (bytes : List ℕ) (at : ℕ) (sheet : Sheet)
+    → (OneLacking fluents table → ⊥) → ReadAs (actLines v fluents actions table next) bytes at sheet → Table v fluents actions table next bytes sheet
 unfolding ReadAs
-acts-table fluents zero table next bytes at sheet known r =
-    record { masks = table; long = omega arith; known = known; at = at; reads = r }
-acts-table fluents (suc actions) table next bytes at sheet known r =
-    let row = rowOf (r .0) in
+acts-table v fluents zero table next bytes at sheet known r =
+    record { masks = table; long = simp mul-zero (omega arith); known = known; at = at; reads = r }
+acts-table v fluents (suc actions) table next bytes at sheet known r =
+    let row = r .0 in
     let more =
-    acts-table fluents actions (table ++ row) next bytes _ sheet
-    (λ h. ⊎-elim known (clean-of (actForm fluents) bytes at (r .0) (r .1) (r .2) .0) (lacking-split fluents table row h))
+    acts-table v fluents actions (table ++ row) next bytes _ sheet
+    (λ h. ⊎-elim known (clean-of (actForm v fluents) bytes at row (r .1) (r .2) .0) (lacking-split fluents table row h))
     (r .3) in
+    let long : length row ≡ v .masks = r .1 .inRange .long in
     record {
       masks = more .masks;
-      long = omega (arith, more .long, length-append table row);
+      long = more .long ∙ rw (length-append, long, mul-suc) (omega arith);
       known = more .known;
       at = more .at;
       reads = more .reads;
@@ -81,30 +90,30 @@ acts-table fluents (suc actions) table next bytes at sheet known r =
 
 -- a rule line's text has no refusal as a rule either
 rule-of :
-    (key : List ℕ) (kind : Kind) (fluents actions : ℕ) (bytes : List ℕ) (at : ℕ) (text : List ℕ) → (BadCounts fluents actions → ⊥)
-    → Says (ruleForm key kind fluents actions) bytes at text → Accepted (lineRows (ruleForm key kind fluents actions) bytes at)
-    → Accepted (ruleRows true kind text fluents actions)
-rule-of key kind fluents actions bytes at text good says acc =
-    let clean = clean-of (ruleForm key kind fluents actions) bytes at text says acc in
+    (key : List ℕ) (kind : Kind) (counts : Counts) (bytes : List ℕ) (at : ℕ) (text : List ℕ) → (CountsOut counts → ⊥)
+    → Says (ruleForm key kind counts) bytes at text → Accepted (lineRows (ruleForm key kind counts) bytes at)
+    → Accepted (ruleRows true kind text counts)
+rule-of key kind counts bytes at text good says acc =
+    let clean = clean-of (ruleForm key kind counts) bytes at text says acc in
     passes good (passes (says .inRange) (passes (clean .0) (passes (clean .1 .0) (passes (clean .1 .1 .0) accepts))))
 
 -- what the head and the table say, and the last four lines, make a legal sheet
 last-legal :
-    (fluents actions start : ℕ) (masks bytes : List ℕ) (at : ℕ) (sheet : Sheet) → fluents ≤ fluentLimit → 1 ≤ actions → actions ≤ actionLimit
-    → (NamesLacking fluents start → ⊥) → length masks ≡ 4 * actions → (OneLacking fluents masks → ⊥)
-    → ReadAs (lastLines fluents actions start masks) bytes at sheet → Legal sheet
+    (setting : Setting) (masks bytes : List ℕ) (at : ℕ) (sheet : Sheet) → Ranged (setting .counts)
+    → (NamesLacking (setting .counts .fluents) (setting .start) → ⊥) → length masks ≡ stride * setting .counts .actions
+    → (OneLacking (setting .counts .fluents) masks → ⊥) → ReadAs (fromLog sheet1 (opened setting masks)) bytes at sheet → Legal sheet
 unfolding ReadAs
-last-legal fluents actions start masks bytes at sheet few some less known long none-lacks log =
+last-legal setting masks bytes at sheet ranged known long none-lacks log =
     let ask = log .3 in
     let run = ask .3 in
     let more = run .3 in
-    let good = counts-good fluents actions few some less in
+    let good = counts-good (setting .counts) ranged in
     subst Legal (sym (more .3 .1))
     (record {
       world =
           passes (⊎-elim good (λ bad. bad long)) (passes (⊎-elim known none-lacks) (passes (log .1 .inRange) accepts));
-      ask = rule-of _ _ fluents actions bytes _ (ask .0) good (ask .1) (ask .2);
-      run = rule-of _ _ fluents actions bytes _ (run .0) good (run .1) (run .2);
+      ask = rule-of _ _ (setting .counts) bytes _ (ask .0) good (ask .1) (ask .2);
+      run = rule-of _ _ (setting .counts) bytes _ (run .0) good (run .1) (run .2);
       more = λ bad. omega (arith, bad, more .1 .inRange .1);
     })
 
@@ -114,10 +123,12 @@ legal bytes sheet s =
     let fluents = s .1 .3 in
     let actions = fluents .3 in
     let start = actions .3 in
+    let setting = settingOf (fluents .0) (actions .0) (start .0) in
     let t =
-    acts-table (fluents .0) (actions .0) [] (lastLines (fluents .0) (actions .0) (start .0)) bytes _ sheet (λ h. absurd (omega (arith, h .there)))
+    acts-table sheet1 (fluents .0) (actions .0) [] (λ masks. fromLog sheet1 (opened setting masks)) bytes _ sheet (λ h. absurd (omega (arith, h .there)))
     (start .3) in
-    last-legal (fluents .0) (actions .0) (start .0) (t .masks) bytes (t .at) sheet (fluents .1 .inRange .1) (actions .1 .inRange .0) (actions .1 .inRange .1)
+    last-legal setting (t .masks) bytes (t .at) sheet
+    (record { fewFluents = fluents .1 .inRange .1; someActions = actions .1 .inRange .0; fewActions = actions .1 .inRange .1 })
     (clean-of (startForm (fluents .0)) bytes _ (start .0) (start .1) (start .2) .0)
     (omega (arith, t .long))
     (t .known)

@@ -1,129 +1,134 @@
 -- Laws of reading the lines of the actions one below the other: what the table has, and which lines are still to come.
 use mathlib.Core.Path.{_≡_, refl, sym, ap, _∙_, subst, subst₂}
-use mathlib.Core.List.{List, [], _∷_, _++_}
-use Prim.Native.Nat.{ℕ, zero, suc, _+_, _-_, _*_, _≤_, _<_}
+use mathlib.Core.List.{List, _++_}
+use Prim.Native.Nat.{ℕ, suc, _+_, _-_, _*_, _≤_, _<_}
+use native.Mathlib.Nat.{mul-suc, mul-le-mul-left}
+use native.Mathlib.Numerals.{add-one}
 use native.Mathlib.Omega.{arith}
 use lib.ListN.{length, take, drop}
 use lib.Seq.{take-add, drop-drop}
 use Rattle.meaning.specs.Refusal.{Refused}
+use Rattle.theory.specs.Subject.{settingOf}
 use Rattle.sheet.specs.Line.{lineRows}
-use Rattle.sheet.specs.Forms.{actForm, rowOf}
-use Rattle.sheet.specs.Lines.{Lines, actLines, lastLines, FaultIn}
-use Rattle.sheet.specs.Found.{Accepts}
-use Rattle.sheet.specs.Act.{masksAt, OnlyRow}
+use Rattle.sheet.specs.Forms.{actForm}
+use Rattle.sheet.specs.Lines.{Lines, opened, fromLog, actLines, fromActs, FaultIn}
+use Rattle.sheet.specs.Found.{Accepts, Below}
+use Rattle.sheet.specs.Acts.{rowAt, OnlyRow}
 use Rattle.sheet.specs.Onward.{Onward}
-use Rattle.sheet.specs.Sections.{bodyLines, ActsAre}
+use Rattle.sheet.specs.Sections.{masksIn, ActsAre}
 use Rattle.sheet.specs.declared.Cursor.{Cursor}
-use Rattle.sheet.proofs.MaskRow.{row-list}
-use Rattle.sheet.proofs.Order.{stays, goes-on, past-line, at-line}
+use Rattle.sheet.specs.declared.Head.{Head}
+use Rattle.sheet.specs.declared.Version.{Version}
+use Rattle.sheet.proofs.Order.{stays, goes-on, past-line, below-line, at-line}
 
--- the lines that are still to come after the first a actions, which left this table
-abbrev toCome : ℕ → ℕ → ℕ → List ℕ → ℕ → Lines
-toCome fluents actions start table left = actLines fluents left table (lastLines fluents actions start)
+-- how many masks the first actions have
+abbrev pub masksOf : Head → ℕ → ℕ
+masksOf h a = h .version .masks * a
+
+next-row : (h : Head) (a : ℕ) → masksOf h (a + 1) ≡ masksOf h a + h .version .masks
+next-row h a = ap (masksOf h) (add-one a) ∙ mul-suc (h .version .masks) a
+
+-- the rows of the first actions, and one more, are within the table
+pub row-within : (h : Head) (a : ℕ) → a < h .setting .counts .actions → masksOf h a + h .version .masks ≤ masksIn h
+row-within h a l =
+    let most : masksOf h (a + 1) ≤ masksIn h = mul-le-mul-left (h .version .masks) (omega arith) in
+    omega (arith, next-row h a, most)
+
+-- a head with these counts, whatever its start state is
+abbrev pub headBy : Version → ℕ → ℕ → Cursor → ℕ → Head
+headBy v fluents actions last start = record { version = v; setting = settingOf fluents actions start; last = last }
+
+-- the lines that are still to come after some actions, which left this table
+abbrev toCome : Head → List ℕ → ℕ → Lines
+toCome h table left = actLines (h .version) (h .setting .counts .fluents) left table (λ masks. fromLog (h .version) (opened (h .setting) masks))
+
+-- from the head to there
+abbrev Leads : List ℕ → Head → List ℕ → ℕ → ℕ → ℕ → Type 0
+Leads bytes h table left at line =
+    Onward (fromActs (h .version) (h .setting)) bytes (h .last .end + 1) (h .last .line + 1) (toCome h table left) at line
 
 -- the first a actions are read, and this is the cursor of the last of them
-pub record Acts (bytes : List ℕ) (above : Cursor) (fluents actions : ℕ) (entry table : List ℕ) (a : ℕ) (last : Cursor) : Type 0 where
-  pub few : a ≤ actions
+pub record Acts (bytes : List ℕ) (h : Head) (entry table : List ℕ) (a : ℕ) (last : Cursor) : Type 0 where
+  pub few : a ≤ h .setting .counts .actions
   pub long : length table ≡ length entry
-  pub within : last .end < length bytes
-  pub counted : last .line ≡ above .line + a
-  pub back : drop (4 * a) table ≡ drop (4 * a) entry
-  pub onward :
-      (start : ℕ)
-      → Onward (bodyLines fluents actions start) bytes (above .end + 1) (above .line + 1)
-      (toCome fluents actions start (take (4 * a) table) (actions - a)) (last .end + 1) (last .line + 1)
+  pub below : Below bytes last
+  pub back : drop (masksOf h a) table ≡ drop (masksOf h a) entry
+  pub onward : Leads bytes h (take (masksOf h a) table) (h .setting .counts .actions - a) (last .end + 1) (last .line + 1)
 
-pub acts-none :
-    (bytes : List ℕ) (above : Cursor) (fluents actions : ℕ) (table : List ℕ) → above .end < length bytes
-    → Acts bytes above fluents actions table table 0 above
-acts-none bytes above fluents actions table within =
-    let all : actions - 0 ≡ actions = omega arith in
+pub acts-none : (bytes : List ℕ) (h : Head) (table : List ℕ) → Below bytes (h .last) → Acts bytes h table table 0 (h .last)
+acts-none bytes h table below =
+    let all : h .setting .counts .actions ≡ h .setting .counts .actions - 0 = omega arith in
+    let none : 0 ≡ masksOf h 0 = omega arith in
     record {
       few = omega arith;
       long = refl;
-      within = within;
-      counted = omega arith;
+      below = below;
       back = refl;
-      onward = λ start.
-          subst (λ (n : ℕ). Onward (bodyLines fluents actions start) bytes (above .end + 1) (above .line + 1) (toCome fluents actions start [] n) (above .end + 1) (above .line + 1))
-          (sym all)
-          (stays (bodyLines fluents actions start) bytes (above .end + 1) (above .line + 1));
+      onward =
+          subst₂ (λ (n k : ℕ). Leads bytes h (take k table) n (h .last .end + 1) (h .last .line + 1)) all none
+          (stays (fromActs (h .version) (h .setting)) bytes (h .last .end + 1) (h .last .line + 1));
     }
 
-module _ (bytes : List ℕ) (above : Cursor) (fluents actions : ℕ) (entry table : List ℕ) (a : ℕ) (last : Cursor)
-    (read : Acts bytes above fluents actions entry table a last) (more : a < actions) where
+module _ (bytes : List ℕ) (h : Head) (entry table : List ℕ) (a : ℕ) (last : Cursor) (read : Acts bytes h entry table a last)
+    (more : a < h .setting .counts .actions) where
+  abbrev left : ℕ
+  left = h .setting .counts .actions - (a + 1)
+
+  abbrev below : List ℕ → ℕ → Lines
+  below row at = toCome h (take (masksOf h a) table ++ row) left
+
   -- the next of them
-  one-more : (start : ℕ) → Onward (bodyLines fluents actions start) bytes (above .end + 1) (above .line + 1)
-      (toCome fluents actions start (take (4 * a) table) (suc (actions - (a + 1)))) (last .end + 1) (last .line + 1)
-  one-more start =
-      let left : actions - a ≡ suc (actions - (a + 1)) = omega arith in
-      subst (λ (n : ℕ). Onward (bodyLines fluents actions start) bytes (above .end + 1) (above .line + 1)
-      (toCome fluents actions start (take (4 * a) table) n) (last .end + 1) (last .line + 1)) left (read .onward start)
+  one-more : Leads bytes h (take (masksOf h a) table) (suc left) (last .end + 1) (last .line + 1)
+  one-more =
+      let few : h .setting .counts .actions - a ≡ suc left = omega arith in
+      subst (λ (n : ℕ). Leads bytes h (take (masksOf h a) table) n (last .end + 1) (last .line + 1)) few (read .onward)
 
   pub acts-fault :
-      (start : ℕ) {n p : ℕ} → Refused (lineRows (actForm fluents) bytes (last .end + 1)) n × (p ≡ last .line + 1)
-      → FaultIn (bodyLines fluents actions start) bytes (above .end + 1) (above .line + 1) n p
-  acts-fault start {n} {p} r =
-      one-more start .faults n p
-      (at-line (actForm fluents) bytes (last .end + 1) (last .line + 1) (λ m at. toCome fluents actions start (take (4 * a) table ++ rowOf m) (actions - (a + 1))) r)
+      {n p : ℕ} → Refused (lineRows (actForm (h .version) (h .setting .counts .fluents)) bytes (last .end + 1)) n × (p ≡ last .line + 1)
+      → FaultIn (fromActs (h .version) (h .setting)) bytes (h .last .end + 1) (h .last .line + 1) n p
+  acts-fault {n} {p} r =
+      one-more .faults n p (at-line (actForm (h .version) (h .setting .counts .fluents)) bytes (last .end + 1) (last .line + 1) below r)
 
   pub acts-more :
-      (table′ : List ℕ) (c : Cursor) → 4 * actions ≤ length entry → length table′ ≡ length table → OnlyRow (4 * a) table table′
-      → Accepts (actForm fluents) bytes (last .end + 1) (last .line + 1) (masksAt table′ (4 * a)) c
-      → Acts bytes above fluents actions entry table′ (a + 1) c
-  acts-more table′ c room long only acc =
-      let long₀ = read .long in
-      let next : 4 * (a + 1) ≡ 4 * a + 4 = omega arith in
-      let four : 4 ≡ 4 * a + 4 - 4 * a = omega arith in
-      let row = row-list table′ (4 * a) (omega arith) in
+      (table′ : List ℕ) (c : Cursor) → length table′ ≡ length table → OnlyRow (masksOf h a) (h .version .masks) table table′
+      → Accepts (actForm (h .version) (h .setting .counts .fluents)) bytes (last .end + 1) (last .line + 1) (rowAt table′ (masksOf h a) (h .version .masks)) c
+      → Acts bytes h entry table′ (a + 1) c
+  acts-more table′ c long only acc =
+      let row = masksOf h a in
+      let count = h .version .masks in
+      let form = actForm (h .version) (h .setting .counts .fluents) in
+      let early = read .below .early in
       record {
         few = omega arith;
         long = long ∙ read .long;
-        within = acc .stands .within;
-        counted = omega (arith, acc .stands .counted, read .counted);
+        below = below-line form bytes (last .end + 1) (last .line + 1) below (rowAt table′ row count) c acc (omega arith);
         back =
-            ap (λ (n : ℕ). drop n table′) next
+            ap (λ (n : ℕ). drop n table′) (next-row h a)
             ∙ only .back
-            ∙ sym (drop-drop 4 (4 * a) table)
-            ∙ ap (drop 4) (read .back)
-            ∙ drop-drop 4 (4 * a) entry
-            ∙ ap (λ (n : ℕ). drop n entry) (sym next);
-        onward = λ start.
-            subst₂
-            (λ (t : List ℕ) (n : ℕ).
-            Onward (bodyLines fluents actions start) bytes (above .end + 1) (above .line + 1)
-            (toCome fluents actions start t (actions - (a + 1))) (c .end + 1) (n + 1))
+            ∙ sym (drop-drop count row table)
+            ∙ ap (drop count) (read .back)
+            ∙ drop-drop count row entry
+            ∙ ap (λ (n : ℕ). drop n entry) (sym (next-row h a));
+        onward =
+            subst₂ (λ (t : List ℕ) (n : ℕ). Leads bytes h t left (c .end + 1) (n + 1))
             (sym
-            (ap (λ (n : ℕ). take n table′) next
-            ∙ take-add (4 * a) 4 table′
-            ∙ ap (λ (l : List ℕ). l ++ take 4 (drop (4 * a) table′)) (only .front)
-            ∙ ap (λ (n : ℕ). take (4 * a) table ++ take n (drop (4 * a) table′)) four
-            ∙ ap (λ (l : List ℕ). take (4 * a) table ++ l) row))
+            (ap (λ (n : ℕ). take n table′) (next-row h a)
+            ∙ take-add row count table′
+            ∙ ap (λ (l : List ℕ). l ++ rowAt table′ row count) (only .front)))
             (sym (acc .stands .counted))
-            (goes-on (one-more start)
-            (past-line (actForm fluents) bytes (last .end + 1) (last .line + 1)
-            (λ m at. toCome fluents actions start (take (4 * a) table ++ rowOf m) (actions - (a + 1))) (masksAt table′ (4 * a)) c acc));
+            (goes-on one-more (past-line form bytes (last .end + 1) (last .line + 1) below (rowAt table′ row count) c acc));
       }
 
 -- all of them are read
 pub acts-done :
-    (bytes : List ℕ) (above : Cursor) (fluents actions : ℕ) (entry table : List ℕ) (a : ℕ) (last : Cursor)
-    → Acts bytes above fluents actions entry table a last → actions ≤ a → (start : ℕ)
-    → ActsAre bytes above fluents actions start entry table last
-acts-done bytes above fluents actions entry table a last read all start =
+    (bytes : List ℕ) (h : Head) (entry table : List ℕ) (a : ℕ) (last : Cursor) → Acts bytes h entry table a last → h .setting .counts .actions ≤ a
+    → ActsAre bytes h entry table last
+acts-done bytes h entry table a last read all =
     let few = read .few in
-    let none : actions - a ≡ 0 = omega arith in
-    let same : a ≡ actions = omega arith in
+    let none : h .setting .counts .actions - a ≡ 0 = omega arith in
+    let same : a ≡ h .setting .counts .actions = omega arith in
     record {
-      within = read .within;
-      counted = read .counted ∙ ap (λ (n : ℕ). above .line + n) same;
-      back = subst (λ (n : ℕ). drop (4 * n) table ≡ drop (4 * n) entry) same (read .back);
-      onward =
-          subst₂
-          (λ (n k : ℕ).
-          Onward (bodyLines fluents actions start) bytes (above .end + 1) (above .line + 1)
-          (toCome fluents actions start (take (4 * n) table) k) (last .end + 1) (last .line + 1))
-          same
-          none
-          (read .onward start);
+      below = read .below;
+      back = subst (λ (n : ℕ). drop (masksOf h n) table ≡ drop (masksOf h n) entry) same (read .back);
+      onward = subst₂ (λ (n k : ℕ). Leads bytes h (take (masksOf h n) table) k (last .end + 1) (last .line + 1)) same none (read .onward);
     }

@@ -1,21 +1,22 @@
 -- What reading a sheet finds is determined: lines have one fault or say one thing, and never both; two answers that the contract allows are equal.
-use mathlib.Core.Path.{_≡_, refl, sym, ap, _∙_, subst}
+use mathlib.Core.Path.{_≡_, sym, ap, ap₂, _∙_, subst}
 use mathlib.Core.Logic.{inl, inr}
 use mathlib.Core.List.{List, [], _++_}
-use Prim.Native.Nat.{ℕ, zero, suc, _+_, _≤_}
+use Prim.Native.Nat.{ℕ, zero, suc, _+_}
 use native.Mathlib.Omega.{arith}
+use denote.Ref.{RefT, now}
 use Rattle.refusal.proofs.Numbers.{one-number}
 use Rattle.meaning.proofs.Refusal.{refused-unique, refused-not-accepted}
-use Rattle.meaning.specs.Limits.{actionLimit}
-use Rattle.sheet.specs.Line.{Form}
-use Rattle.sheet.specs.Forms.{rowOf}
-use Rattle.sheet.specs.Lines.{Sheet, Lines, line, none, actLines, lastLines, sheetLines, valueAt, nextAt, ReadAs, FaultIn, SheetRefused, SheetSays}
-use Rattle.sheet.specs.Answer.{parsedOf, fronted, Handed, Refuses, SheetAnswered}
+use Rattle.rule.specs.Outcome.{PartAt}
+use Rattle.theory.specs.Subject.{countsOf, settingOf}
+use Rattle.sheet.specs.Lines.{Sheet, Lines, line, none, opened, actLines, fromLog, sheetLines, valueAt, nextAt, ReadAs, FaultIn, SheetRefused, SheetSays}
+use Rattle.sheet.specs.Versions.{versionOf}
+use Rattle.sheet.specs.declared.Version.{Version}
+use Rattle.sheet.specs.Answer.{parsedOf, fronted, SheetAnswered}
 use Rattle.sheet.specs.declared.SheetAnswer.{SheetAnswer}
 use Rattle.sheet.specs.declared.SheetAnswer.the-variants.{Faulty, Read}
 use Rattle.sheet.proofs.Rows.{Clear, one-said}
-use Rattle.sheet.proofs.RuleLine.{rule-clear}
-use Rattle.sheet.proofs.Forms.{number-clear, start-clear, act-clear, log-clear}
+use Rattle.sheet.proofs.Forms.{number-clear, start-clear, act-clear, log-clear, rule-clear}
 
 -- every line that can come is clear
 abbrev AllClear : Lines → Type 0
@@ -60,31 +61,34 @@ not-both (line form next) clear bytes at above n p s (inr f) g =
 
 -- the lines of a sheet are clear
 acts-clear :
-    (fluents actions : ℕ) (table : List ℕ) (next : List ℕ → Lines) → ((t : List ℕ) → AllClear (next t))
-    → AllClear (actLines fluents actions table next)
-acts-clear fluents zero table next clear = clear table
-acts-clear fluents (suc actions) table next clear =
-    (act-clear fluents, λ m range at. acts-clear fluents actions (table ++ rowOf m) next clear)
+    (v : Version) (fluents actions : ℕ) (table : List ℕ) (next : List ℕ → Lines) → ((t : List ℕ) → AllClear (next t))
+    → AllClear (actLines v fluents actions table next)
+acts-clear v fluents zero table next clear = clear table
+acts-clear v fluents (suc actions) table next clear =
+    (act-clear v fluents, λ row range at. acts-clear v fluents actions (table ++ row) next clear)
 
-last-clear : (fluents actions start : ℕ) (masks : List ℕ) → actions ≤ actionLimit → AllClear (lastLines fluents actions start masks)
-last-clear fluents actions start masks few = (
-  log-clear actions few,
+last-clear : (v : Version) (s : Sheet) → AllClear (fromLog v s)
+last-clear v s = (
+  log-clear v (countsOf (s .subject) .actions),
   λ log _ _. (
-    rule-clear [] _ fluents actions,
-    λ ask _ _. (rule-clear [] _ fluents actions, λ run _ _. (number-clear [] 1 _ _ (omega arith), λ more _ _. tt)),
+    rule-clear [] _ (countsOf (s .subject)),
+    λ ask _ _. (rule-clear [] _ (countsOf (s .subject)), λ run _ _. (number-clear [] 1 _ _ (omega arith), λ more _ _. tt)),
   ),
 )
 
 sheet-clear : AllClear sheetLines
 sheet-clear = (
   number-clear [] 1 _ _ (omega arith),
-  λ version _ _. (
+  λ number _ _. (
     number-clear [] 2 _ _ (omega arith),
     λ fluents _ _. (
       number-clear [] 2 _ _ (omega arith),
-      λ actions range _. (
+      λ actions _ _. (
         start-clear fluents,
-        λ start _ _. acts-clear fluents actions [] (lastLines fluents actions start) (λ masks. last-clear fluents actions start masks (range .1)),
+        λ start _ _.
+            let s = settingOf fluents actions start in
+            let v = versionOf number in
+            acts-clear v fluents actions [] (λ masks. fromLog v (opened s masks)) (λ masks. last-clear v (opened s masks)),
       ),
     ),
   ),
@@ -117,6 +121,13 @@ read-sheet-determined bytes masks log (Read p) (Faulty f) m m′ l l′ x y = ab
 read-sheet-determined bytes masks log (Read p) (Read q) m m′ l l′ x y =
     let same = one-saying bytes (x .sheet) (y .sheet) (x .says) (y .says) in (
       ap Read (x .told ∙ ap parsedOf same ∙ sym (y .told)),
-      x .filled ∙ ap (λ s. fronted (s .masks) masks) same ∙ sym (y .filled),
-      x .logged ∙ ap (λ s. fronted (s .log) log) same ∙ sym (y .logged),
+      x .filled ∙ ap (λ s. fronted (s .subject .masks) masks) same ∙ sym (y .filled),
+      x .logged ∙ ap (λ s. fronted (s .subject .log) log) same ∙ sym (y .logged),
     )
+
+-- And of `part`: two parts are the same stretch of memory with the same bytes.
+pub part-determined :
+    (sheet : RefT (List ℕ)) (start : ℕ) (held : List ℕ) (part part′ : RefT (List ℕ)) → PartAt sheet start held part → PartAt sheet start held part′
+    → (part .ptr ≡ part′ .ptr) × (now part ≡ now part′)
+part-determined sheet start held part part′ p q =
+    (ap₂ (λ (b o : ℕ). (b, o)) (p .block ∙ sym (q .block)) (p .offset ∙ sym (q .offset)), p .bytes ∙ sym (q .bytes))

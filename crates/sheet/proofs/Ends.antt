@@ -1,14 +1,14 @@
 -- Laws of finding a line: its key opens it and the first LF ends it, or there is none.
-use mathlib.Core.Path.{_≡_, refl, sym, ap, _∙_}
-use mathlib.Core.List.{List, [], _∷_, _++_}
+use mathlib.Core.Path.{_≡_, sym, ap, _∙_}
+use mathlib.Core.List.{List, _∷_, _++_}
 use Prim.Native.Nat.{ℕ, suc, _+_, _-_, _≤_, _<_}
-use native.Mathlib.Nat.{add-assoc}
 use native.Mathlib.Omega.{arith}
-use lib.ListN.{length, getD, take, drop, length-append, length-drop, take-append-drop}
-use lib.Seq.{length-take-le, drop-cons, drop-append-seam, getD-append-seam, getD-append-add, getD-take, getD-drop, drop-drop}
-use Rattle.sheet.specs.Limits.{lf}
+use lib.ListN.{length, getD, drop, length-append, length-drop, take-append-drop}
+use lib.Seq.{drop-cons, drop-append-seam, getD-append-seam, getD-take, getD-drop, drop-drop}
+use Rattle.spelling.specs.Numeral.{lf}
 use Rattle.sheet.specs.Line.{Line, NoLine}
-use Rattle.sheet.specs.Scan.{stretch, FirstLf}
+use Rattle.spelling.specs.Scan.{stretch, FirstLf}
+use Rattle.spelling.proofs.Stretch.{length-stretch}
 
 -- what follows a key that stands at a place
 rest-is : (bytes key rest : List ℕ) (at : ℕ) → drop at bytes ≡ key ++ rest → rest ≡ drop (at + length key) bytes
@@ -44,9 +44,6 @@ cut bytes start end onward within =
     sym (take-append-drop (end - start) (drop start bytes))
     ∙ ap (λ (l : List ℕ). stretch bytes start end ++ l)
     (drop-drop (end - start) start bytes ∙ ap (λ (n : ℕ). drop n bytes) back ∙ drop-cons bytes end 0 within)
-
-pub length-stretch : (bytes : List ℕ) (start end : ℕ) → end ≤ length bytes → length (stretch bytes start end) ≡ end - start
-length-stretch bytes start end within = length-take-le (end - start) (drop start bytes) (omega (arith, length-drop start bytes))
 
 pub found-line :
     (bytes key : List ℕ) (at end : ℕ) → drop at bytes ≡ key ++ drop (at + length key) bytes → FirstLf bytes (at + length key) end

@@ -1,101 +1,144 @@
--- Laws of the last four lines: from the cursors of the log, the ask and the run line and the answer to the last line, the answer to all four.
-use mathlib.Core.Path.{_≡_, sym, _∙_}
+-- Laws of the last four lines: each adds what it says to what the lines above say, and what is found below it is found of it.
+use mathlib.Core.Path.{_≡_, refl, sym, ap, _∙_, subst}
 use mathlib.Core.List.{List}
 use Prim.Native.Nat.{ℕ, _+_, _≤_}
 use native.Mathlib.Omega.{arith}
 use lib.ListN.{length, take, drop}
 use lib.Seq.{length-take-le}
-use Rattle.sheet.specs.Scan.{stretch}
-use Rattle.sheet.specs.Forms.{logForm, askForm, runForm}
-use Rattle.sheet.specs.Lines.{Lines, line, lastLines}
-use Rattle.sheet.specs.Found.{Stands, Accepts}
-use Rattle.sheet.specs.Answer.{parsedOf}
+use Rattle.theory.specs.Subject.{Subject}
+use Rattle.spelling.specs.Scan.{stretch}
+use Rattle.spelling.proofs.Stretch.{length-stretch}
+use Rattle.sheet.specs.Forms.{logForm, askForm, runForm, moreForm}
+use Rattle.sheet.specs.Lines.{Sheet, Lines, none, withLog, withAsk, withRun, withMore, fromMore, fromRun, fromAsk, fromLog}
+use Rattle.sheet.specs.Found.{CursorAt, Accepts}
+use Rattle.sheet.specs.Answer.{parsedOf, fronted}
 use Rattle.sheet.specs.Onward.{Onward}
-use Rattle.sheet.specs.Sections.{saidBy, moreLines, handedBy, MoreFound, LastIs, LastFound}
+use Rattle.sheet.specs.Sections.{SheetFound, LogFound}
 use Rattle.sheet.specs.declared.Cursor.{Cursor}
-use Rattle.sheet.specs.declared.Head.{Head}
+use Rattle.sheet.specs.declared.Parsed.{Parsed}
 use Rattle.sheet.specs.declared.SheetAnswer.{SheetAnswer}
 use Rattle.sheet.specs.declared.SheetAnswer.the-variants.{Faulty, Read}
+use Rattle.sheet.specs.declared.Stretch.{Stretch}
+use Rattle.sheet.specs.declared.Version.{Version}
+use Rattle.sheet.proofs.Order.{past-cursor, past-line, all-read}
 use Rattle.sheet.proofs.Whole.{front-written}
-use Rattle.sheet.proofs.Ends.{length-stretch}
-use Rattle.sheet.proofs.Order.{goes-on, past-cursor}
 
--- the lines below the log line, and below the ask line
-abbrev pub fromRun : Head → List ℕ → List ℕ → List ℕ → ℕ → Lines
-fromRun h masks log ask askAt = line (runForm (h .fluents) (h .actions)) (λ run runAt. moreLines h masks log ask askAt run runAt)
+-- what is found from a line on is what is found from a line above
+sheet-found :
+    {whole rest : Lines} {bytes : List ℕ} {at line at′ line′ : ℕ} (subject : Subject) → Onward whole bytes at line rest at′ line′ → (answer : SheetAnswer)
+    → SheetFound rest bytes at′ line′ subject answer → SheetFound whole bytes at line subject answer
+sheet-found subject on (Faulty f) m = on .faults _ _ m
+sheet-found subject on (Read p) m = record { sheet = m .sheet; reads = on .reads _ (m .reads); told = m .told; about = m .about }
 
-abbrev pub fromAsk : Head → List ℕ → List ℕ → Lines
-fromAsk h masks log = line (askForm (h .fluents) (h .actions)) (λ ask askAt. fromRun h masks log ask askAt)
+-- where a value ends
+ends : {key bytes : List ℕ} {at line : ℕ} {c : Cursor} → CursorAt key bytes at line c → c .end ≡ c .start + length (stretch bytes (c .start) (c .end))
+ends {bytes = bytes} {c = c} s =
+    let long = length-stretch bytes (c .start) (c .end) (omega (arith, s .within)) in
+    omega (arith, s .onward, long)
 
-module _ (bytes : List ℕ) (h : Head) (above l : Cursor) (exit : List ℕ)
-    (logged : Accepts (logForm (h .actions)) bytes (above .end + 1) (above .line + 1) (take (l .number) exit) l) where
-  abbrev log : List ℕ
-  log = take (l .number) exit
+-- the stretch of a cursor
+abbrev pub valueOf : Cursor → Stretch
+valueOf c = record { start = c .start; end = c .end }
 
-  pub past-log :
-      (masks : List ℕ)
-      → Onward (lastLines (h .fluents) (h .actions) (h .start) masks) bytes (above .end + 1) (above .line + 1) (fromAsk h masks log) (l .end + 1) (l .line + 1)
-  past-log masks =
-      past-cursor (logForm (h .actions)) bytes (above .end + 1) (above .line + 1) (λ log at. fromAsk h masks log) log l logged
+abbrev pub textOf : List ℕ → Cursor → List ℕ
+textOf bytes c = stretch bytes (c .start) (c .end)
 
-  module _ (a : Cursor)
-      (asked : Accepts (askForm (h .fluents) (h .actions)) bytes (l .end + 1) (l .line + 1) (stretch bytes (a .start) (a .end)) a) where
-    abbrev ask : List ℕ
-    ask = stretch bytes (a .start) (a .end)
+module _ (bytes : List ℕ) (at line : ℕ) (said : Parsed) (c : Cursor) (s : Sheet) (e : said ≡ parsedOf s) where
+  -- the last line, and nothing follows it; or bytes do
+  pub more-read :
+      Accepts moreForm bytes at line (c .number) c → length bytes ≤ c .end + 1
+      → SheetFound (fromMore s) bytes at line (s .subject)
+      (Read (record { setting = said .setting; steps = said .steps; ask = said .ask; run = said .run; more = c .number }))
+  more-read acc last =
+      record {
+        sheet = withMore s (c .number);
+        reads =
+            past-line moreForm bytes at line (λ more at. none (withMore s more)) (c .number) c acc .reads _
+            (all-read bytes (c .end + 1) (withMore s (c .number)) last);
+        told = ap (λ (p : Parsed). record { setting = p .setting; steps = p .steps; ask = p .ask; run = p .run; more = c .number }) e;
+        about = refl;
+      }
 
-    pub past-ask :
-        (masks : List ℕ)
-        → Onward (lastLines (h .fluents) (h .actions) (h .start) masks) bytes (above .end + 1) (above .line + 1)
-        (fromRun h masks log ask (a .start)) (a .end + 1) (a .line + 1)
-    past-ask masks =
-        goes-on (past-log masks)
-        (past-cursor (askForm (h .fluents) (h .actions)) bytes (l .end + 1) (l .line + 1) (λ ask askAt. fromRun h masks log ask askAt) ask a asked)
+  -- the job
+  pub run-read :
+      (answer : SheetAnswer) → Accepts (runForm (said .setting .counts)) bytes at line (textOf bytes c) c
+      → ((s : Sheet) → record { setting = said .setting; steps = said .steps; ask = said .ask; run = valueOf c; more = said .more } ≡ parsedOf s
+      → SheetFound (fromMore s) bytes (c .end + 1) (c .line + 1) (s .subject) answer)
+      → SheetFound (fromRun s) bytes at line (s .subject) answer
+  run-read answer acc below =
+      let job = subst (λ (p : Parsed). Accepts (runForm (p .setting .counts)) bytes at line (textOf bytes c) c) e acc in
+      sheet-found (s .subject)
+      (past-cursor (runForm (s .subject .setting .counts)) bytes at line (λ run at. fromMore (withRun s run at)) (textOf bytes c) c job)
+      answer
+      (below (withRun s (textOf bytes c) (c .start))
+      (λ i.
+      record {
+        setting = e i .setting;
+        steps = e i .steps;
+        ask = e i .ask;
+        run = record { start = c .start; end = ends (acc .stands) i };
+        more = e i .more;
+      }))
 
-    module _ (r : Cursor)
-        (job : Accepts (runForm (h .fluents) (h .actions)) bytes (a .end + 1) (a .line + 1) (stretch bytes (r .start) (r .end)) r) where
-      abbrev run : List ℕ
-      run = stretch bytes (r .start) (r .end)
+  -- what is asked
+  pub ask-read :
+      (answer : SheetAnswer) → Accepts (askForm (said .setting .counts)) bytes at line (textOf bytes c) c
+      → ((s : Sheet) → record { setting = said .setting; steps = said .steps; ask = valueOf c; run = said .run; more = said .more } ≡ parsedOf s
+      → SheetFound (fromRun s) bytes (c .end + 1) (c .line + 1) (s .subject) answer)
+      → SheetFound (fromAsk s) bytes at line (s .subject) answer
+  ask-read answer acc below =
+      let asked = subst (λ (p : Parsed). Accepts (askForm (p .setting .counts)) bytes at line (textOf bytes c) c) e acc in
+      sheet-found (s .subject)
+      (past-cursor (askForm (s .subject .setting .counts)) bytes at line (λ ask at. fromRun (withAsk s ask at)) (textOf bytes c) c asked)
+      answer
+      (below (withAsk s (textOf bytes c) (c .start))
+      (λ i.
+      record {
+        setting = e i .setting;
+        steps = e i .steps;
+        ask = record { start = c .start; end = ends (acc .stands) i };
+        run = e i .run;
+        more = e i .more;
+      }))
 
-      past-run :
-          (masks : List ℕ)
-          → Onward (lastLines (h .fluents) (h .actions) (h .start) masks) bytes (above .end + 1) (above .line + 1)
-          (moreLines h masks log ask (a .start) run (r .start)) (r .end + 1) (r .line + 1)
-      past-run masks =
-          goes-on (past-ask masks)
-          (past-cursor (runForm (h .fluents) (h .actions)) bytes (a .end + 1) (a .line + 1)
-          (λ run runAt. moreLines h masks log ask (a .start) run runAt) run r job)
+  -- the log, whose steps stand at the front of the lent one
+  module _ (v : Version) (entry exit : List ℕ) (room : c .number ≤ length exit) where
+    -- the same log line, by what the sheet says
+    log-found :
+        {lines : Lines} → Onward (fromLog v s) bytes at line lines (c .end + 1) (c .line + 1) → drop (c .number) exit ≡ drop (c .number) entry
+        → (answer : SheetAnswer) → SheetFound lines bytes (c .end + 1) (c .line + 1) (withLog s (take (c .number) exit) .subject) answer
+        → LogFound (fromLog v s) bytes at line (s .subject .masks) entry exit answer
+    log-found on back (Faulty f) m = on .faults _ _ m
+    log-found on back (Read p) m =
+        record {
+          sheet = m .sheet;
+          reads = on .reads _ (m .reads);
+          told = m .told;
+          about = ap (λ (x : Subject). x .masks) (m .about);
+          logged =
+              front-written entry exit (c .number) room back
+              ∙ ap (λ (x : Subject). fronted (x .log) entry) (sym (m .about));
+        }
 
-      -- where a stretch of the sheet ends
-      ends : (key : List ℕ) (at place : ℕ) (c : Cursor) → Stands key bytes at place c → c .end ≡ c .start + length (stretch bytes (c .start) (c .end))
-      ends key at place c s =
-          let long = length-stretch bytes (c .start) (c .end) (omega (arith, s .within)) in
-          omega (arith, s .onward, long)
-
-      pub last-found :
-          (entry : List ℕ) → l .number ≤ length exit → drop (l .number) exit ≡ drop (l .number) entry → (answer : SheetAnswer)
-          → MoreFound bytes h l a r answer → LastFound bytes h above entry exit answer
-      last-found entry few back (Faulty f) m = λ masks. past-run masks .faults _ _ (m masks log ask (a .start) run (r .start))
-      last-found entry few back (Read p) m =
-          let n = length-take-le (l .number) exit few in
-          record {
-            log = log;
-            ask = ask;
-            askAt = a .start;
-            run = run;
-            runAt = r .start;
-            more = m .more;
-            logged = front-written entry exit (l .number) few back;
-            told = λ masks.
-                m .told
-                ∙ (λ i.
-                record {
-                  fluents = h .fluents;
-                  actions = h .actions;
-                  start = h .start;
-                  steps = sym n i;
-                  ask = record { start = a .start; end = ends _ _ _ a (asked .stands) i };
-                  run = record { start = r .start; end = ends _ _ _ r (job .stands) i };
-                  more = m .more;
-                });
-            reads = λ masks. past-run masks .reads _ (m .reads masks log ask (a .start) run (r .start));
-          }
+    pub log-read :
+        (answer : SheetAnswer) → Accepts (logForm v (said .setting .counts .actions)) bytes at line (take (c .number) exit) c
+        → drop (c .number) exit ≡ drop (c .number) entry
+        → ((s : Sheet) → record { setting = said .setting; steps = c .number; ask = said .ask; run = said .run; more = said .more } ≡ parsedOf s
+        → SheetFound (fromAsk s) bytes (c .end + 1) (c .line + 1) (s .subject) answer)
+        → LogFound (fromLog v s) bytes at line (s .subject .masks) entry exit answer
+    log-read answer acc back below =
+        let log = take (c .number) exit in
+        let logged = subst (λ (p : Parsed). Accepts (logForm v (p .setting .counts .actions)) bytes at line log c) e acc in
+        log-found
+        (past-cursor (logForm v (s .subject .setting .counts .actions)) bytes at line (λ log at. fromAsk (withLog s log)) log c logged)
+        back
+        answer
+        (below (withLog s log)
+        (λ i.
+        record {
+          setting = e i .setting;
+          steps = sym (length-take-le (c .number) exit room) i;
+          ask = e i .ask;
+          run = e i .run;
+          more = e i .more;
+        }))

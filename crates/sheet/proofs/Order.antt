@@ -1,5 +1,5 @@
 -- Laws of reading lines from the top: an accepted line leads on to the lines below it, and a refused one is the fault of all.
-use mathlib.Core.Path.{_≡_, refl, sym, ap, _∙_, subst, subst₂}
+use mathlib.Core.Path.{_≡_, refl, sym, ap, subst, subst₂}
 use mathlib.Core.Logic.{inl, inr}
 use mathlib.Core.List.{List}
 use Prim.Native.Nat.{ℕ, _+_, _≤_, _<_}
@@ -9,12 +9,11 @@ use Rattle.meaning.specs.Refusal.{Refused}
 use Rattle.meaning.proofs.Refusal.{here, passes, accepts}
 use Rattle.sheet.specs.Line.{Form, lineRows}
 use Rattle.sheet.specs.Lines.{Sheet, Lines, line, none, valueAt, nextAt, ReadAs, FaultIn}
-use Rattle.sheet.specs.Scan.{stretch}
-use Rattle.sheet.specs.Found.{Stands, Accepts}
+use Rattle.sheet.specs.Found.{Accepts, Below}
 use Rattle.sheet.specs.Onward.{Onward}
 use Rattle.sheet.specs.declared.Cursor.{Cursor}
 use Rattle.sheet.proofs.Rows.{one-value}
-use Rattle.sheet.proofs.Ends.{length-stretch}
+use Rattle.spelling.proofs.Stretch.{length-stretch}
 
 pub stays : (whole : Lines) (bytes : List ℕ) (at place : ℕ) → Onward whole bytes at place whole at place
 stays whole bytes at place = record { faults = λ n p h. h; reads = λ s h. h }
@@ -54,6 +53,12 @@ module _ (form : Form) (bytes : List ℕ) (at number : ℕ) (next : form .Value 
       subst₂ (λ (k n : ℕ). Onward (line form next) bytes at number (next said k) (c .end + 1) (n + 1)) (sym (a .stands .starts)) (sym (a .stands .counted))
       (past-line said c a)
 
+  -- and reading goes on below it, where it is not further down than its place
+  pub below-line : (said : form .Value) (c : Cursor) → Accepts form bytes at number said c → number ≤ at + length (form .key) → Below bytes c
+  below-line said c a early =
+      let s = a .stands in
+      record { within = s .within; early = omega (arith, s .counted, s .starts, s .onward, early) }
+
   pub at-line :
       {n p : ℕ} → Refused (lineRows form bytes at) n × (p ≡ number) → FaultIn (line form next) bytes at number n p
   unfolding FaultIn
@@ -66,4 +71,4 @@ all-read bytes at sheet l = (passes (λ more. more (drop-of-length-le bytes l)) 
 
 pub bytes-follow : (bytes : List ℕ) (at place : ℕ) (sheet : Sheet) → at < length bytes → FaultIn (none sheet) bytes at place 2 place
 unfolding FaultIn
-bytes-follow bytes at place sheet l = (here tt (λ e. let long = length-drop at bytes in let none = ap length e in omega arith), refl)
+bytes-follow bytes at place sheet l = (here (λ e. let long = length-drop at bytes in let none = ap length e in omega arith), refl)

@@ -1,14 +1,14 @@
 -- Laws of one line of a sheet: it has one value and says one thing, and how it is found right or which refusal it has. Knows no key and no form.
 use mathlib.Core.Path.{_≡_, refl, sym, _∙_, subst}
-use mathlib.Core.Logic.{inl, inr, ⊎-elim}
+use mathlib.Core.Logic.{inl, inr}
 use mathlib.Core.List.{List, [], _∷_, _++_, append-cancel-left}
 use Prim.Native.Nat.{ℕ, suc, _<_, suc-le-suc}
 use native.Mathlib.Omega.{arith}
 use lib.ListN.{length, getD}
-use Rattle.meaning.specs.Refusal.{Row, _when_, Applies, Refused, Accepted}
-use Rattle.meaning.proofs.Refusal.{Rising, here, past, passes, not-first, not-rest}
-use Rattle.sheet.specs.Limits.{lf}
-use Rattle.sheet.specs.Line.{Line, Judge, Form, Says, NoLine, Miswritten, SaysBad, judgeRows, lineRows}
+use Rattle.meaning.specs.Refusal.{Row, _when_, FirstHolding, Refused, Accepted}
+use Rattle.meaning.proofs.Refusal.{here, past, passes, not-first, not-rest}
+use Rattle.spelling.specs.Numeral.{lf}
+use Rattle.sheet.specs.Line.{Line, Judge, Form, Says, NoLine, Miswritten, judgeRows, lineRows}
 
 -- no LF in these bytes, as `Line` says it
 abbrev Plain : List ℕ → Type 0
@@ -44,14 +44,14 @@ Clean (judge ∷ judges) a = (judge .bad a → ⊥) × Clean judges a
 
 module _ (form : Form) (bytes : List ℕ) (at : ℕ) where
   -- 2
-  pub no-line : Rising 2 (lineRows form bytes at) → NoLine (form .key) bytes at → Refused (lineRows form bytes at) 2
-  no-line up h = here (up) h
+  pub no-line : NoLine (form .key) bytes at → Refused (lineRows form bytes at) 2
+  no-line h = here h
 
   -- 3, 5 or 6: there is a line, and its value is not one that the form has
   pub miswritten :
-      (value : List ℕ) → Rising (form .otherwise) (judgeRows form bytes at (form .judges)) → Line (form .key) bytes at value
+      (value : List ℕ) → Line (form .key) bytes at value
       → ((said : form .Value) → form .InRange said → value ≡ form .spell said → ⊥) → Refused (lineRows form bytes at) (form .otherwise)
-  miswritten value up line unsaid = past (λ none. none value line) (here up (record { value = value; line = line; unsaid = unsaid }))
+  miswritten value line unsaid = past (λ none. none value line) (here (record { value = value; line = line; unsaid = unsaid }))
 
   -- a line that says something is not miswritten
   not-miswritten : (said : form .Value) → Says form bytes at said → Miswritten form bytes at → ⊥
@@ -71,11 +71,11 @@ module _ (form : Form) (bytes : List ℕ) (at : ℕ) where
     none-bad :
         (said : form .Value) → Says form bytes at said → (judges : List {1} (Judge (form .Value))) → Clean judges said
         → Accepted (judgeRows form bytes at judges)
-    none-bad said says [] clean k a = a
-    none-bad said says (judge ∷ judges) clean k a =
-        ⊎-elim (λ h. clean .0 (subst (judge .bad) (one-said (h .1 .said) said (h .1 .says) says) (h .1 .fault)))
-        (none-bad said says judges (clean .1) k)
-        a
+    none-bad said says [] clean = tt
+    none-bad said says (judge ∷ judges) clean = (
+      λ h. clean .0 (subst (judge .bad) (one-said (h .said) said (h .says) says) (h .fault)),
+      none-bad said says judges (clean .1),
+    )
 
     pub right :
         (said : form .Value) → Says form bytes at said → Clean (form .judges) said → Accepted (lineRows form bytes at)
@@ -92,19 +92,12 @@ clean-by [] said accepted = tt
 clean-by (judge ∷ judges) said accepted = (not-first accepted, clean-by judges said (not-rest accepted))
 
 module _ (form : Form) (bytes : List ℕ) (at : ℕ) (clear : Clear form) (said : form .Value) (says : Says form bytes at said) where
-  to-line : (judges : List {1} (Judge (form .Value))) (k : ℕ) → Applies (valueRows judges said) k → Applies (judgeRows form bytes at judges) k
-  to-line [] k a = a
-  to-line (judge ∷ judges) k (inl h) = inl (h .0, record { said = said; says = says; fault = h .1 })
-  to-line (judge ∷ judges) k (inr a) = inr (to-line judges k a)
-
-  to-value : (judges : List {1} (Judge (form .Value))) (k : ℕ) → Applies (judgeRows form bytes at judges) k → Applies (valueRows judges said) k
-  to-value [] k a = a
-  to-value (judge ∷ judges) k (inl h) =
-      inl (h .0, subst (judge .bad) (one-said form bytes at clear (h .1 .said) said (h .1 .says) says) (h .1 .fault))
-  to-value (judge ∷ judges) k (inr a) = inr (to-value judges k a)
+  to-line :
+      (judges : List {1} (Judge (form .Value))) (N : ℕ) → FirstHolding (valueRows judges said) N → FirstHolding (judgeRows form bytes at judges) N
+  to-line (judge ∷ judges) N (inl h) = inl (h .0, record { said = said; says = says; fault = h .1 })
+  to-line (judge ∷ judges) N (inr h) =
+      inr (λ b. h .0 (subst (judge .bad) (one-said form bytes at clear (b .said) said (b .says) says) (b .fault)), to-line judges N (h .1))
 
   -- the line's number is that of what it says
   pub judged-by : {N : ℕ} → Refused (valueRows (form .judges) said) N → Refused (lineRows form bytes at) N
-  judged-by {N} r =
-      judged form bytes at said says
-      (record { applies = to-line (form .judges) N (r .applies); smallest = λ k l a. r .smallest k l (to-value (form .judges) k a) })
+  judged-by {N} r = judged form bytes at said says (record { first = to-line (form .judges) N (r .first) })

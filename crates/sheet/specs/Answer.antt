@@ -8,17 +8,20 @@ use Rattle.sheet.specs.Lines.{Sheet, SheetRefused, SheetSays}
 use Rattle.sheet.specs.declared.Parsed.{Parsed}
 use Rattle.sheet.specs.declared.SheetAnswer.{SheetAnswer}
 use Rattle.sheet.specs.declared.SheetAnswer.the-variants.{Faulty, Read}
+use Rattle.sheet.specs.declared.Stretch.{Stretch}
+
+-- where a value of a line stands
+abbrev pub placed : ℕ → List ℕ → Stretch
+placed at value = record { start = at; end = at + length value }
 
 -- what is handed back of a sheet that says this: "A line's value is handed back as that stretch of the sheet."
 abbrev pub parsedOf : Sheet → Parsed
 parsedOf sheet =
     record {
-      fluents = sheet .fluents;
-      actions = sheet .actions;
-      start = sheet .start;
-      steps = length (sheet .log);
-      ask = record { start = sheet .askAt; end = sheet .askAt + length (sheet .ask) };
-      run = record { start = sheet .runAt; end = sheet .runAt + length (sheet .run) };
+      setting = sheet .subject .setting;
+      steps = length (sheet .subject .log);
+      ask = placed (sheet .askAt) (sheet .ask);
+      run = placed (sheet .runAt) (sheet .run);
       more = sheet .more;
     }
 
@@ -31,8 +34,8 @@ pub record Handed (bytes masks log : List ℕ) (p : Parsed) (masks′ log′ : L
   pub sheet : Sheet
   pub says : SheetSays bytes sheet
   pub told : p ≡ parsedOf sheet
-  pub filled : masks′ ≡ fronted (sheet .masks) masks
-  pub logged : log′ ≡ fronted (sheet .log) log
+  pub filled : masks′ ≡ fronted (sheet .subject .masks) masks
+  pub logged : log′ ≡ fronted (sheet .subject .log) log
 
 -- a refused one: its number and its place; "A refusal .. changes no lent byte."
 pub record Refuses (bytes masks log : List ℕ) (number place : ℕ) (masks′ log′ : List ℕ) : Type 0 where

@@ -1,11 +1,12 @@
 pub mod Limits
-pub mod Numeral
+pub mod Versions
+pub mod Masks
 pub mod Line
 pub mod Forms
+pub mod Longest
 pub mod Lines
-pub mod Scan
 pub mod Found
-pub mod Act
+pub mod Acts
 pub mod Log
 pub mod Onward
 pub mod Answer

@@ -1,17 +1,20 @@
--- The limits of document 01 that only a sheet has, each named once. Nothing else in specs/ writes these numbers.
+-- The numbers of document 01 that only a sheet has, each named once.
 use Prim.Native.Nat.{ℕ}
 
--- "With 64 actions the longest sheet has 3,263 bytes."
-abbrev pub sheetLimit : ℕ
-sheetLimit = 3263
+-- `sheet=1`: the newest version that there is
+abbrev pub newest : ℕ
+newest = 1
 
--- `sheet=1`
-abbrev pub version : ℕ
-version = 1
+-- a count has two digits, the version and *more* have one
+abbrev pub countWidth : ℕ
+countWidth = 2
 
--- each line "ended by one LF"
-abbrev pub lf : ℕ
-lf = 10
+abbrev pub digitWidth : ℕ
+digitWidth = 1
+
+-- "two digits an action"
+abbrev pub stepWidth : ℕ
+stepWidth = 2
 
 -- "with commas between"
 abbrev pub comma : ℕ

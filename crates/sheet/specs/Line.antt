@@ -1,10 +1,10 @@
 -- Document 01, "The sheet" and "Numbers of refusal": one line of a sheet, whatever its key, and when it has which refusal.
 use mathlib.Core.Path.{_≡_}
 use mathlib.Core.List.{List, [], _∷_, _++_}
-use Prim.Native.Nat.{ℕ, _<_}
+use Prim.Native.Nat.{ℕ, _+_, _<_}
 use lib.ListN.{length, getD, drop}
 use Rattle.meaning.specs.Refusal.{Row, _when_}
-use Rattle.sheet.specs.Limits.{lf}
+use Rattle.spelling.specs.Numeral.{lf}
 
 -- "Lines key=value .., each ended by one LF": from place `at` on the sheet has a line with this key (its `=` with it) and this value.
 pub record Line (key bytes : List ℕ) (at : ℕ) (value : List ℕ) : Type 0 where
@@ -21,14 +21,20 @@ infix 5 _if_
 abbrev pub _if_ : {A : Type 0} → ℕ → (A → Type 0) → Judge A
 k if x = record { number = k; bad = x }
 
--- What a line may say: its key, how what it says is written, what is in range, the number of the refusal of anything else, and further faults.
+-- What a line may say: its key, how what it says is written, how many bytes that takes at most, what is in range, the number of the refusal of anything
+-- else, and further faults.
 pub record Form : Type 1 where
   pub key : List ℕ
   pub Value : Type 0
   pub spell : Value → List ℕ
+  pub width : ℕ
   pub InRange : Value → Type 0
   pub otherwise : ℕ
   pub judges : List {1} (Judge Value)
+
+-- how many bytes a line takes at most: its key, its value and its LF
+abbrev pub lineWidth : Form → ℕ
+lineWidth form = length (form .key) + form .width + 1
 
 -- the line at this place says this
 pub record Says (form : Form) (bytes : List ℕ) (at : ℕ) (said : form .Value) : Type 0 where

@@ -1,21 +1,22 @@
 -- Document 01, "The sheet": its lines in their order, and what reading them from the top finds.
 use mathlib.Core.Path.{_≡_}
 use mathlib.Core.Logic.{_⊎_}
-use mathlib.Core.List.{List, [], _∷_, _++_}
+use mathlib.Core.List.{List, [], _++_}
 use Prim.Native.Nat.{ℕ, zero, suc, _+_, _≤_, _<_}
-use lib.ListN.{length, drop}
+use lib.ListN.{length}
 use Rattle.meaning.specs.Refusal.{Refused, Accepted}
-use Rattle.sheet.specs.Limits.{sheetLimit}
+use Rattle.theory.specs.Subject.{Subject, settingOf, subjectOf, countsOf}
+use Rattle.theory.specs.declared.Counts.{Counts}
+use Rattle.theory.specs.declared.Setting.{Setting}
 use Rattle.sheet.specs.Line.{Form, Says, lineRows, endRows}
-use Rattle.sheet.specs.Forms.{versionForm, fluentsForm, actionsForm, startForm, actForm, rowOf, logForm, askForm, runForm, moreForm}
+use Rattle.sheet.specs.Versions.{versionOf}
+use Rattle.sheet.specs.Longest.{sheetLimit}
+use Rattle.sheet.specs.Forms.{versionForm, fluentsForm, actionsForm, startForm, actForm, logForm, askForm, runForm, moreForm}
+use Rattle.sheet.specs.declared.Version.{Version}
 
--- What a sheet says. The masks are one flat table, four an action; of a rule it is the text, and the place where that stands on the sheet.
+-- What a sheet says. Its masks are one flat table; of a rule it is the text, and the place where that stands on the sheet.
 pub record Sheet : Type 0 where
-  pub fluents : ℕ
-  pub actions : ℕ
-  pub start : ℕ
-  pub masks : List ℕ
-  pub log : List ℕ
+  pub subject : Subject
   pub ask : List ℕ
   pub askAt : ℕ
   pub run : List ℕ
@@ -27,40 +28,64 @@ pub data Lines : Type 1 where
   line : (form : Form) → (form .Value → ℕ → Lines) → Lines
   none : Sheet → Lines
 
+-- what is said once the lines of the actions are read, and what the lines below them add
+abbrev pub opened : Setting → List ℕ → Sheet
+opened setting masks = record { subject = subjectOf setting masks []; ask = []; askAt = 0; run = []; runAt = 0; more = 0 }
+
+abbrev pub withLog : Sheet → List ℕ → Sheet
+withLog s log =
+    record {
+      subject = subjectOf (s .subject .setting) (s .subject .masks) log;
+      ask = s .ask;
+      askAt = s .askAt;
+      run = s .run;
+      runAt = s .runAt;
+      more = s .more;
+    }
+
+abbrev pub withAsk : Sheet → List ℕ → ℕ → Sheet
+withAsk s ask askAt = record { subject = s .subject; ask = ask; askAt = askAt; run = s .run; runAt = s .runAt; more = s .more }
+
+abbrev pub withRun : Sheet → List ℕ → ℕ → Sheet
+withRun s run runAt = record { subject = s .subject; ask = s .ask; askAt = s .askAt; run = run; runAt = runAt; more = s .more }
+
+abbrev pub withMore : Sheet → ℕ → Sheet
+withMore s more = record { subject = s .subject; ask = s .ask; askAt = s .askAt; run = s .run; runAt = s .runAt; more = more }
+
+-- "`log=` .., `ask=` a test, `run=` a job, `more=` one digit 0 to 6": each with the lines below it
+abbrev pub fromMore : Sheet → Lines
+fromMore s = line moreForm (λ more at. none (withMore s more))
+
+abbrev pub fromRun : Sheet → Lines
+fromRun s = line (runForm (countsOf (s .subject))) (λ run at. fromMore (withRun s run at))
+
+abbrev pub fromAsk : Sheet → Lines
+fromAsk s = line (askForm (countsOf (s .subject))) (λ ask at. fromRun (withAsk s ask at))
+
+abbrev pub fromLog : Version → Sheet → Lines
+fromLog v s = line (logForm v (countsOf (s .subject) .actions)) (λ log at. fromAsk (withLog s log))
+
 -- "then one line per action in order of number"
-abbrev pub actLines : ℕ → ℕ → List ℕ → (List ℕ → Lines) → Lines
-actLines fluents zero table next = next table
-actLines fluents (suc actions) table next = line (actForm fluents) (λ m at. actLines fluents actions (table ++ rowOf m) next)
+abbrev pub actLines : Version → ℕ → ℕ → List ℕ → (List ℕ → Lines) → Lines
+actLines v fluents zero table next = next table
+actLines v fluents (suc actions) table next = line (actForm v fluents) (λ row at. actLines v fluents actions (table ++ row) next)
 
--- "then `log=` .., `ask=` a test, `run=` a job, `more=` one digit 0 to 6", with what the lines above say
-abbrev pub lastLines : ℕ → ℕ → ℕ → List ℕ → Lines
-lastLines fluents actions start masks =
-    line (logForm actions) λ log at.
-    line (askForm fluents actions) λ ask askAt.
-    line (runForm fluents actions) λ run runAt.
-    line moreForm λ more at.
-    none
-    (record {
-      fluents = fluents;
-      actions = actions;
-      start = start;
-      masks = masks;
-      log = log;
-      ask = ask;
-      askAt = askAt;
-      run = run;
-      runAt = runAt;
-      more = more;
-    })
+abbrev pub fromActs : Version → Setting → Lines
+fromActs v s = actLines v (s .counts .fluents) (s .counts .actions) [] (λ masks. fromLog v (opened s masks))
 
--- "Lines key=value in this order .., nothing after the last"
+-- "`sheet=1`, `fluents=NN` .., `actions=NN` .., `start=` 8 hex digits, then one line per action"
+abbrev pub fromStart : Version → Counts → Lines
+fromStart v c = line (startForm (c .fluents)) (λ start at. fromActs v (settingOf (c .fluents) (c .actions) start))
+
+abbrev pub fromActions : Version → ℕ → Lines
+fromActions v fluents = line actionsForm (λ actions at. fromStart v (record { fluents = fluents; actions = actions }))
+
+abbrev pub fromFluents : Version → Lines
+fromFluents v = line fluentsForm (λ fluents at. fromActions v fluents)
+
+-- "Lines key=value in this order .., nothing after the last"; which lines come, the first one says
 abbrev pub sheetLines : Lines
-sheetLines =
-    line versionForm λ version at.
-    line fluentsForm λ fluents at.
-    line actionsForm λ actions at.
-    line (startForm fluents) λ start at.
-    actLines fluents actions [] (lastLines fluents actions start)
+sheetLines = line versionForm (λ number at. fromFluents (versionOf number))
 
 -- where the value of a line stands, and where the next line
 abbrev pub valueAt : Form → ℕ → ℕ

@@ -1,57 +1,62 @@
-// The line of an action: four masks in hex, which go into the mask table.
-ghost use mathlib.Core.Path.{_≡_};
-ghost use mathlib.Core.Logic.{_↔_};
-ghost use mathlib.Core.Bool.{true};
-ghost use Prim.Native.Nat.{_+_, _≤_};
+// The lines of the actions: each has the version's masks in hex, which go into the mask table.
+ghost use Prim.Native.Nat.{_+_, _*_, _≤_};
 ghost use lib.ListN.{length};
-ghost use Rattle.sheet.specs.Scan.{stretch};
-ghost use Rattle.sheet.specs.Act.{Parted, OnlyRow, MasksRead, masksAt};
+ghost use Rattle.meaning.specs.Limits.{fluentLimit};
+ghost use Rattle.meaning.specs.Theory.{stride};
+ghost use Rattle.spelling.specs.Numeral.{wordWidth};
+ghost use Rattle.spelling.specs.Scan.{stretch};
+ghost use Rattle.sheet.specs.Masks.{maskPitch};
+ghost use Rattle.sheet.specs.Versions.{Usable};
+ghost use Rattle.sheet.specs.Acts.{MaskFound, OnlyRow, MasksRead, rowAt};
 ghost use Rattle.sheet.specs.Forms.{actForm};
 ghost use Rattle.sheet.specs.Found.{LineRead};
-ghost use Rattle.meaning.specs.Limits.{fluentLimit};
-use crate::Digits;
+ghost use Rattle.sheet.specs.Sections.{ActsAsked, ActsFound};
 use crate::Fault;
+use crate::Head;
 use crate::LineAnswer;
+use crate::Version;
 use crate::line;
-use crate::scan;
 use refusal::Refusal;
-use theory::STRIDE;
+use spelling::Digits;
+use spelling::WORD_WIDTH;
+use spelling::scan;
 use theory::faults;
 
-// Three commas part the four masks of eight digits that start at this place.
-pub(crate) fn parted(sheet: &[u8], start: usize) -> bool
-    requires { ⌜ start + 35 ≤ length (now sheet) ⌝ }
-    ensures { λ r. ⌜ (r ≡ true) ↔ Parted (now (sheet .entry)) start ⌝ }
+// From one mask of a line to the next: its digits and a comma.
+const MASK_PITCH: usize = WORD_WIDTH + 1;
+
+// Mask j of those that start at this place, if a comma parts it from the one before it.
+fn mask_at(sheet: &[u8], start: usize, j: usize) -> Digits
+    requires { ⌜ start + maskPitch * j + wordWidth ≤ length (now sheet) ⌝ }
+    ensures { λ r. ⌜ MaskFound (now (sheet .entry)) start j r ⌝ }
 {
-    if sheet[start + 8] != b',' {
-        return false;
+    let at = start + MASK_PITCH * j;
+    if 0 < j {
+        if sheet[at - 1] != b',' {
+            return Digits::Other;
+        }
     }
-    if sheet[start + 17] != b',' {
-        return false;
-    }
-    sheet[start + 26] == b','
+    scan::number_at(sheet, at, WORD_WIDTH, 16)
 }
 
-// Reads the four masks of a stretch into the table from this row on: whether they are written as they should be.
-pub(crate) fn read_masks(
+// Reads so many masks of a stretch into the table from this row on: whether they are written as they should be.
+fn read_masks(
     sheet: &[u8],
     start: usize,
     end: usize,
+    count: usize,
     masks: &mut [u32],
     row: usize,
 ) -> bool
-    requires { ⌜ (start ≤ end) × (end ≤ length (now sheet)) × (row + 4 ≤ length (now masks)) ⌝ }
-    ensures { λ r. ⌜ OnlyRow row (now (masks .entry)) (now (masks .exit)) × MasksRead (stretch (now (sheet .entry)) start end) (now (masks .exit)) row r ⌝ }
+    requires { ⌜ (start ≤ end) × (end ≤ length (now sheet)) × (1 ≤ count) × (count ≤ stride) × (row + count ≤ length (now masks)) ⌝ }
+    ensures { λ r. ⌜ OnlyRow row count (now (masks .entry)) (now (masks .exit)) × MasksRead (stretch (now (sheet .entry)) start end) (now (masks .exit)) row count r ⌝ }
 {
-    if end - start != 35 {
-        return false;
-    }
-    if !parted(sheet, start) {
+    if end - start != MASK_PITCH * count - 1 {
         return false;
     }
     let mut j = 0;
-    while j < STRIDE {
-        match scan::number_at(sheet, start + 9 * j, 8, 16) {
+    while j < count {
+        match mask_at(sheet, start, j) {
             Digits::Other => {
                 return false;
             }
@@ -65,29 +70,31 @@ pub(crate) fn read_masks(
 }
 
 // The line of an action, whose masks go into the table from this row on.
-pub(crate) fn act_line(
+fn act_line(
     sheet: &[u8],
     at: usize,
     line: usize,
+    version: Version,
     fluents: usize,
     masks: &mut [u32],
     row: usize,
 ) -> LineAnswer
-    requires { ⌜ (at ≤ length (now sheet)) × (fluents ≤ fluentLimit) × (row + 4 ≤ length (now masks)) ⌝ }
-    ensures { λ r. ⌜ OnlyRow row (now (masks .entry)) (now (masks .exit)) × LineRead (actForm fluents) (now (sheet .entry)) at line (λ c. masksAt (now (masks .exit)) row) r ⌝ }
+    requires { ⌜ (at ≤ length (now sheet)) × Usable version × (fluents ≤ fluentLimit) × (row + version .masks ≤ length (now masks)) ⌝ }
+    ensures { λ r. ⌜ OnlyRow row (version .masks) (now (masks .entry)) (now (masks .exit)) × LineRead (actForm version fluents) (now (sheet .entry)) at line (λ c. rowAt (now (masks .exit)) row (version .masks)) r ⌝ }
 {
+    let count = version.masks;
     match line::line_at(sheet, at, line, b"act=") {
         LineAnswer::Faulty(f) => LineAnswer::Faulty(f),
         LineAnswer::Next(c) => {
             let start = c.start;
             let end = c.end;
-            if !read_masks(sheet, start, end, masks, row) {
+            if !read_masks(sheet, start, end, count, masks, row) {
                 return LineAnswer::Faulty(Fault {
                     refusal: Refusal::BadNumber,
                     line,
                 });
             }
-            if faults::bad_masks(fluents, 0, &masks[row..row + STRIDE]) {
+            if faults::bad_masks(fluents, 0, &masks[row..row + count]) {
                 return LineAnswer::Faulty(Fault {
                     refusal: Refusal::LacksFluent,
                     line,
@@ -96,4 +103,33 @@ pub(crate) fn act_line(
             LineAnswer::Next(c)
         }
     }
+}
+
+// The lines of the actions below the head; their masks go to the front of the table.
+pub(crate) fn read_acts(sheet: &[u8], head: Head, masks: &mut [u32]) -> LineAnswer
+    requires { ⌜ ActsAsked (now sheet) head (now masks) ⌝ }
+    ensures { λ r. ⌜ ActsFound (now (sheet .entry)) head (now (masks .entry)) (now (masks .exit)) r ⌝ }
+{
+    let version = head.version;
+    let setting = head.setting;
+    let counts = setting.counts;
+    let fluents = counts.fluents;
+    let actions = counts.actions;
+    let count = version.masks;
+    let mut last = head.last;
+    let mut a = 0;
+    while a < actions {
+        let at = last.end + 1;
+        let line = last.line + 1;
+        match act_line(sheet, at, line, version, fluents, masks, count * a) {
+            LineAnswer::Faulty(f) => {
+                return LineAnswer::Faulty(f);
+            }
+            LineAnswer::Next(c) => {
+                last = c;
+            }
+        }
+        a += 1;
+    }
+    LineAnswer::Next(last)
 }

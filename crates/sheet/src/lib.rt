@@ -1,24 +1,30 @@
 // Reads a job sheet: finds its first faulty line, or what the sheet says.
 ghost use mathlib.Core.Path.{_≡_};
-ghost use Rattle.sheet.specs.Scan.{stretch};
+ghost use Prim.Native.Nat.{min};
+ghost use lib.ListN.{length};
+ghost use Rattle.rule.specs.Outcome.{PartAt};
+ghost use Rattle.spelling.specs.Scan.{stretch};
 ghost use Rattle.sheet.specs.Answer.{SheetAnswered};
+ghost use Rattle.sheet.specs.Sections.{LinesFound};
 
-mod scan; // scan.rt: a key, the end of a line, a number
-mod act; // act.rt: the line of an action
-mod sections; // sections.rt: the head, the actions, the last four lines
+mod act; // act.rt: the lines of the actions
+mod closing; // closing.rt: the last four lines
+mod line; // line.rt: a line with its key, and the lines that say a number
+mod opening; // opening.rt: the lines down to the start state
 mod rules; // rules.rt: the lines that are rules
 mod steps; // steps.rt: the log line
-mod line; // line.rt: a line with its key, and the lines that say a number
+mod versions; // versions.rt: the versions of the sheet
 
 use positions::PositionSet;
 use refusal::Refusal;
 use theory::ACTION_LIMIT;
 use theory::STRIDE;
+use theory::Setting;
 
-// What a run of digits is.
-pub enum Digits {
-    Number(u32),
-    Other,
+// A version of the sheet: how many masks an action's line has, and how many steps its log may have.
+struct Version {
+    pub masks: usize,
+    pub log: usize,
 }
 
 // A refused line: why, and its number from 1.
@@ -28,7 +34,7 @@ pub struct Fault {
 }
 
 // An accepted line: its number from 1, the place where its value starts, the place of its LF, and the number that it says, 0 where it says none.
-pub struct Cursor {
+struct Cursor {
     pub line: usize,
     pub start: usize,
     pub end: usize,
@@ -36,20 +42,19 @@ pub struct Cursor {
 }
 
 // What reading one line answers.
-pub enum LineAnswer {
+enum LineAnswer {
     Faulty(Fault),
     Next(Cursor),
 }
 
 // What the lines down to the start state say, with the cursor of the last of them.
-pub struct Head {
-    pub fluents: usize,
-    pub actions: usize,
-    pub start: u32,
+struct Head {
+    pub version: Version,
+    pub setting: Setting,
     pub last: Cursor,
 }
 
-pub enum HeadAnswer {
+enum HeadAnswer {
     Faulty(Fault),
     Read(Head),
 }
@@ -62,9 +67,7 @@ pub struct Stretch {
 
 // What an accepted sheet says, but for the masks and the steps of the log, which go to lent memory: how many steps there are, and where the rules stand.
 pub struct Parsed {
-    pub fluents: usize,
-    pub actions: usize,
-    pub start: u32,
+    pub setting: Setting,
     pub steps: usize,
     pub ask: Stretch,
     pub run: Stretch,
@@ -84,6 +87,26 @@ pub const MASKS_ROOM: usize = STRIDE * ACTION_LIMIT;
 
 pub const LOG_ROOM: usize = PositionSet::PLACES;
 
+// The lines from the top: the first faulty one, or what they say.
+fn read_lines(sheet: &[u8], masks: &mut [u32; MASKS_ROOM], log: &mut [u8; LOG_ROOM]) -> SheetAnswer
+    ensures { λ r. ⌜ LinesFound (now (sheet .entry)) (now (masks .entry)) (now (log .entry)) r (now (masks .exit)) (now (log .exit)) ⌝ }
+{
+    match opening::read_head(sheet) {
+        HeadAnswer::Faulty(f) => SheetAnswer::Faulty(f),
+        HeadAnswer::Read(h) => {
+            let version = h.version;
+            let setting = h.setting;
+            match act::read_acts(sheet, h, masks) {
+                LineAnswer::Faulty(f) => SheetAnswer::Faulty(f),
+                LineAnswer::Next(c) => {
+                    let said = closing::nothing_yet(setting);
+                    closing::read_log(sheet, c, version, said, log)
+                }
+            }
+        }
+    }
+}
+
 // Reads a sheet: the first faulty line with its refusal, or what the sheet says. Its masks and its log go to the front of the lent tables, which a
 // refusal leaves as they were.
 pub fn read_sheet(
@@ -101,7 +124,7 @@ pub fn read_sheet(
     }
     let mut table = *masks;
     let mut steps = *log;
-    match sections::read_lines(sheet, &mut table, &mut steps) {
+    match read_lines(sheet, &mut table, &mut steps) {
         SheetAnswer::Faulty(f) => SheetAnswer::Faulty(f),
         SheetAnswer::Read(p) => {
             *masks = table;
@@ -111,20 +134,21 @@ pub fn read_sheet(
     }
 }
 
-// The stretch of the sheet, as a part of it: so much of it as there is.
-pub fn part(sheet: &[u8], s: Stretch) -> &[u8]
-    ensures { λ r. ⌜ now r ≡ stretch (now (sheet .entry)) (s .start) (s .end) ⌝ }
+// The smaller of two numbers.
+fn least(a: usize, b: usize) -> usize
+    ensures { λ r. ⌜ r ≡ min a b ⌝ }
 {
-    let start = s.start;
-    let end = s.end;
+    if a < b { a } else { b }
+}
+
+// The stretch of the sheet, as a part of the same sheet: so much of it as there is.
+pub fn part(sheet: &[u8], s: Stretch) -> &[u8]
+    ensures { λ r. ⌜ PartAt (sheet .entry) (min (s .start) (length (now (sheet .entry)))) (stretch (now (sheet .entry)) (s .start) (s .end)) r ⌝ }
+{
+    let start = least(s.start, sheet.len());
+    let end = least(s.end, sheet.len());
     if end < start {
-        return &sheet[..0];
-    }
-    if sheet.len() < start {
-        return &sheet[..0];
-    }
-    if sheet.len() < end {
-        return &sheet[start..];
+        return &sheet[start..start];
     }
     &sheet[start..end]
 }

@@ -1,18 +1,22 @@
 // One line of a sheet: its key and its LF, and the lines that say a number.
-ghost use mathlib.Core.Path.{_≡_};
-ghost use Prim.Native.Nat.{ℕ, _≤_, _<_, _^_};
+ghost use Prim.Native.Nat.{_≤_, _<_, _^_};
 ghost use lib.ListN.{length};
 ghost use Rattle.meaning.specs.Limits.{fluentLimit};
-ghost use Rattle.sheet.specs.Numeral.{numeral};
 ghost use Rattle.sheet.specs.Forms.{numberForm, startForm};
 ghost use Rattle.sheet.specs.Found.{LineFound, LineRead};
 use crate::Cursor;
-use crate::Digits;
 use crate::Fault;
 use crate::LineAnswer;
-use crate::scan;
 use refusal::Refusal;
+use spelling::Digits;
+use spelling::WORD_WIDTH;
+use spelling::scan;
 use theory::faults;
+
+// The version and *more* have one digit, a count has two.
+pub(crate) const DIGIT_WIDTH: usize = 1;
+
+pub(crate) const COUNT_WIDTH: usize = 2;
 
 // The line with this key at this place, whatever its value is.
 pub(crate) fn line_at(sheet: &[u8], at: usize, line: usize, key: &[u8]) -> LineAnswer
@@ -48,7 +52,7 @@ pub(crate) fn number_line(
     high: u32,
 ) -> LineAnswer
     requires { ⌜ (at ≤ length (now sheet)) × (high < 10 ^ width) × (10 ^ width ≤ 2 ^ 32) ⌝ }
-    ensures { λ r. ⌜ LineRead (numberForm (now (key .entry)) (numeral 10 width) low high) (now (sheet .entry)) at line (λ c. c .number) r ⌝ }
+    ensures { λ r. ⌜ LineRead (numberForm (now (key .entry)) width low high) (now (sheet .entry)) at line (λ c. c .number) r ⌝ }
 {
     let bad = LineAnswer::Faulty(Fault {
         refusal: Refusal::BadNumber,
@@ -90,7 +94,7 @@ pub(crate) fn start_line(sheet: &[u8], at: usize, line: usize, fluents: usize) -
         LineAnswer::Next(c) => {
             let start = c.start;
             let end = c.end;
-            match scan::number_in(sheet, start, end, 8, 16) {
+            match scan::number_in(sheet, start, end, WORD_WIDTH, 16) {
                 Digits::Other => LineAnswer::Faulty(Fault {
                     refusal: Refusal::BadNumber,
                     line,

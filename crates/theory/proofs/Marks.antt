@@ -1,58 +1,107 @@
--- One word of a table has some bits more, or the other way: a step that is noted, and the fluents that change at a position, one by one. Knows bits and
--- lists alone.
+-- One row has some positions more, or the other way: a step that is noted, and the fluents that change at a position, one by one. This file and the
+-- definition that it opens know that a row is a word. Knows bits and lists alone.
 use mathlib.Core.Path.{_≡_, refl, sym, ap, subst, subst⁻¹, _∙_}
-use mathlib.Core.Logic.{_↔_, _⊎_, inl, inr, ⊎-elim, ⊎-map, Iff·trans}
+use mathlib.Core.Logic.{_↔_, _⊎_, inl, inr, ⊎-elim}
 use mathlib.Core.Bool.{Bool, true, false, false≢true, _&&_, xor, and-false}
 use mathlib.Core.List.{List}
-use Prim.Native.Nat.{ℕ, _+_, _-_, _*_, _/_, _%_, _^_, _≤_, _<_}
+use Prim.Native.Nat.{ℕ, zero, suc, _+_, _-_, _*_, _/_, _%_, _^_, _≤_, _<_}
 use native.Mathlib.Decide.{ℕ-discrete}
 use native.Mathlib.Omega.{arith}
 use borrow.Author.Tests.{leb-true, ltb-true, eqb-true, lt-ltb, le-leb, eq-eqb}
 use lib.Bits.{bitOr, bitXor, xor-self, xor-zero-r}
 use lib.Dec.{ltb, leb, eqb}
-use lib.ListN.{length, getD, set, length-set}
+use lib.ListN.{length, getD, set, replicate, length-set}
 use lib.Seq.{getD-set-same, getD-set-other}
 use Rattle.laws.specs.Bit.{on}
 use Rattle.laws.proofs.On.{on-shr, on-none}
 use Rattle.laws.proofs.Bitwise.{on-or, on-xor}
 use Rattle.laws.proofs.Shift.{on-shl, on-one-shl, on-ones}
 use Rattle.laws.proofs.Truth.{same-truth, no-truth, and-iff, or-iff}
-use Rattle.meaning.specs.Limits.{places, logLimit, fluentLimit}
-use Rattle.theory.specs.Tables.{Noted, Reversed}
+use Rattle.meaning.specs.Limits.{places, logLimit, fluentLimit, actionLimit}
+use Rattle.theory.specs.Tables.{actionRows, fluentRows, possibleRow, rowCount, rowHolds, amongHolds, fluentHolds, Noted, Reversed}
 
--- some bits more in one word of a table
-pub word-more : (old : List ℕ) (a word : ℕ) → a < length old → (b q : ℕ)
-    → (on (getD (set old a (bitOr (getD old a 0) word)) b 0) q ≡ true) ↔ ((on (getD old b 0) q ≡ true) ⊎ ((b ≡ a) × (on word q ≡ true)))
-word-more old a word there b q = elim (ℕ-discrete b a) [
+-- rows that hold nothing
+zeros : (n r : ℕ) → _≡_ {A = ℕ} (getD (replicate n 0) r 0) 0
+zeros zero r = refl
+zeros (suc n) zero = refl
+zeros (suc n) (suc r) = zeros n r
+
+pub blank : (n r q : ℕ) → rowHolds (replicate n 0) r q ≡ false
+unfolding rowHolds
+blank n r q = rw (zeros n r) (on-none q)
+
+-- a number's row among some: there is one, and it holds the position
+pub among : (rows : List ℕ) (first many n q : ℕ) → (amongHolds rows first many n q ≡ true) ↔ ((n < many) × (rowHolds rows (first + n) q ≡ true))
+among rows first many n q = (
+  λ h. let u = and-iff (ltb n many) (rowHolds rows (first + n) q) .0 h in (ltb-true n many (u .0), u .1),
+  λ u. and-iff (ltb n many) (rowHolds rows (first + n) q) .1 (lt-ltb n many (u .0), u .1),
+)
+
+-- some positions more in one row
+abbrev pub marked : List ℕ → ℕ → ℕ → List ℕ
+marked old r word = set old r (bitOr (getD old r 0) word)
+
+row-more : (old : List ℕ) (r word : ℕ) → r < length old → (s q : ℕ)
+    → (rowHolds (marked old r word) s q ≡ true) ↔ ((rowHolds old s q ≡ true) ⊎ ((s ≡ r) × (on word q ≡ true)))
+unfolding rowHolds
+row-more old r word there s q = elim (ℕ-discrete s r) [
   | no other ↦
-      rw (getD-set-other old a b (bitOr (getD old a 0) word) 0 other)
+      rw (getD-set-other old r s (bitOr (getD old r 0) word) 0 other)
       (inl, ⊎-elim (λ h. h) (λ h. absurd (other (h .0))))
   | yes e ↦
       subst⁻¹
-      (λ (x : ℕ). (on (getD (set old a (bitOr (getD old a 0) word)) x 0) q ≡ true) ↔ ((on (getD old x 0) q ≡ true) ⊎ ((x ≡ a) × (on word q ≡ true))))
+      (λ (x : ℕ). (on (getD (marked old r word) x 0) q ≡ true) ↔ ((on (getD old x 0) q ≡ true) ⊎ ((x ≡ r) × (on word q ≡ true))))
       e
-      (rw (getD-set-same old a (bitOr (getD old a 0) word) 0 there, on-or) (
-        λ h. ⊎-elim inl (λ w. inr (refl, w)) (or-iff (on (getD old a 0) q) (on word q) .0 h),
-        λ h. or-iff (on (getD old a 0) q) (on word q) .1 (⊎-elim inl (λ w. inr (w .1)) h),
+      (rw (getD-set-same old r (bitOr (getD old r 0) word) 0 there, on-or) (
+        λ h. ⊎-elim inl (λ w. inr (refl, w)) (or-iff (on (getD old r 0) q) (on word q) .0 h),
+        λ h. or-iff (on (getD old r 0) q) (on word q) .1 (⊎-elim inl (λ w. inr (w .1)) h),
       ))
 ]
 
 -- the word of one position
-pub position-iff : (p q : ℕ) → p < places → (on (1 * 2 ^ p % 2 ^ places) q ≡ true) ↔ (q ≡ p)
+position-iff : (p q : ℕ) → p < places → (on (1 * 2 ^ p % 2 ^ places) q ≡ true) ↔ (q ≡ p)
 position-iff p q h = rw (on-one-shl p places q h) (eqb-true q p, eq-eqb q p)
 
--- a step that was possible is noted, and one that was not leaves the table
-pub noted : (old : List ℕ) (a p : ℕ) → a < length old → p < places → Noted old (set old a (bitOr (getD old a 0) (1 * 2 ^ p % 2 ^ places))) a p true
-noted old a p there h =
+-- a step that was possible is noted in two rows, and one that was not leaves them all
+pub noted : (old : List ℕ) (a p : ℕ) → length old ≡ rowCount → a < actionLimit → p < places
+    → Noted old (marked (marked old (actionRows + a) (1 * 2 ^ p % 2 ^ places)) possibleRow (1 * 2 ^ p % 2 ^ places)) a p true
+noted old a p room there h =
     record {
-      room = length-set old a _;
-      bits = λ b q.
-          Iff·trans (word-more old a (1 * 2 ^ p % 2 ^ places) there b q)
-          (⊎-map (λ l. l) (λ r. (refl, r .0, position-iff p q h .0 (r .1))), ⊎-map (λ l. l) (λ r. (r .1, position-iff p q h .1 (r .2))));
+      room = length-set (marked old (actionRows + a) bit) possibleRow _ ∙ length-set old (actionRows + a) _;
+      bits = λ r q. (onward r q, back r q);
     }
+  where
+    bit : ℕ
+    bit = 1 * 2 ^ p % 2 ^ places
+
+    first : List ℕ
+    first = marked old (actionRows + a) bit
+
+    one : (r q : ℕ) → (rowHolds first r q ≡ true) ↔ ((rowHolds old r q ≡ true) ⊎ ((r ≡ actionRows + a) × (on bit q ≡ true)))
+    one = row-more old (actionRows + a) bit (omega arith)
+
+    two : (r q : ℕ) → (rowHolds (marked first possibleRow bit) r q ≡ true) ↔ ((rowHolds first r q ≡ true) ⊎ ((r ≡ possibleRow) × (on bit q ≡ true)))
+    two = row-more first possibleRow bit (omega (arith, length-set old (actionRows + a) (bitOr (getD old (actionRows + a) 0) bit)))
+
+    onward : (r q : ℕ) → rowHolds (marked first possibleRow bit) r q ≡ true
+        → (rowHolds old r q ≡ true) ⊎ ((true ≡ true) × ((r ≡ actionRows + a) ⊎ (r ≡ possibleRow)) × (q ≡ p))
+    onward r q k =
+        ⊎-elim
+        (λ f. ⊎-elim inl (λ u. inr (refl, inl (u .0), position-iff p q h .0 (u .1))) (one r q .0 f))
+        (λ u. inr (refl, inr (u .0), position-iff p q h .0 (u .1)))
+        (two r q .0 k)
+
+    back : (r q : ℕ) → (rowHolds old r q ≡ true) ⊎ ((true ≡ true) × ((r ≡ actionRows + a) ⊎ (r ≡ possibleRow)) × (q ≡ p))
+        → rowHolds (marked first possibleRow bit) r q ≡ true
+    back r q =
+        ⊎-elim
+        (λ o. two r q .1 (inl (one r q .1 (inl o))))
+        (λ u.
+        let here = position-iff p q h .1 (u .2) in
+        ⊎-elim (λ e. two r q .1 (inl (one r q .1 (inr (e, here))))) (λ e. two r q .1 (inr (e, here))) (u .1))
 
 pub not-noted : (old : List ℕ) (a p : ℕ) → Noted old old a p false
-not-noted old a p = record { room = refl; bits = λ b q. (inl, ⊎-elim (λ l. l) (λ r. absurd (false≢true (r .0)))) }
+not-noted old a p = record { room = refl; bits = λ r q. (inl, ⊎-elim (λ l. l) (λ u. absurd (false≢true (u .0)))) }
 
 -- the positions from p up to n: `!0 >> (63 - n) >> p << p`
 pub from-iff : (p n q : ℕ) → p ≤ n → n < places → on ((2 ^ places - 1) / 2 ^ (logLimit - n) / 2 ^ p * 2 ^ p % 2 ^ places) q ≡ (leb p q && leb q n)
@@ -83,7 +132,12 @@ with-none true = refl
 with-none false = refl
 
 pub turn-none : (old : List ℕ) (changed at : ℕ) → Reversed old old (bitXor changed changed) at
-turn-none old changed at = record { room = refl; bits = λ i q. rw (xor-self changed, on-none, and-false) (sym (with-none (on (getD old i 0) q))) }
+turn-none old changed at =
+    record {
+      room = refl;
+      shown = λ i q. rw (xor-self changed, on-none, and-false) (sym (with-none (fluentHolds old i q)));
+      others = λ r q other. refl;
+    }
 
 -- one fluent more is turned
 one-turned : (o x c r : Bool) → xor (xor o (x && xor c r)) x ≡ xor o (x && xor c (xor r true))
@@ -99,28 +153,56 @@ one-turned false true true false = refl
 one-turned false true false true = refl
 one-turned false true false false = refl
 
-pub turn-more : {old new : List ℕ} (changed rest : ℕ) {at i : ℕ} → i < length old → i < fluentLimit → Reversed old new (bitXor changed rest) at
-    → Reversed old (set new i (bitXor (getD new i 0) at)) (bitXor changed (bitXor rest (1 * 2 ^ i % 2 ^ fluentLimit))) at
-turn-more {old} {new} changed rest {at} {i} there low t =
+-- the other way, in one row
+abbrev pub turned : List ℕ → ℕ → ℕ → List ℕ
+turned old r word = set old r (bitXor (getD old r 0) word)
+
+row-other : (old : List ℕ) (r word s q : ℕ) → (s ≡ r → ⊥) → rowHolds (turned old r word) s q ≡ rowHolds old s q
+unfolding rowHolds
+row-other old r word s q other = rw (getD-set-other old r s (bitXor (getD old r 0) word) 0 other)
+
+row-turned : (old : List ℕ) (r word q : ℕ) → r < length old → rowHolds (turned old r word) r q ≡ xor (rowHolds old r q) (on word q)
+unfolding rowHolds
+row-turned old r word q there = rw (getD-set-same old r (bitXor (getD old r 0) word) 0 there) (on-xor (getD old r 0) word q)
+
+pub turn-more : {old new : List ℕ} (changed rest : ℕ) {at i : ℕ} → length old ≡ rowCount → i < fluentLimit → Reversed old new (bitXor changed rest) at
+    → Reversed old (turned new (fluentRows + i) at) (bitXor changed (bitXor rest (1 * 2 ^ i % 2 ^ fluentLimit))) at
+turn-more {old} {new} changed rest {at} {i} size low t =
     record {
-      room = length-set new i _ ∙ t .room;
-      bits = λ j q.
+      room = length-set new (fluentRows + i) _ ∙ t .room;
+      shown = λ j q.
           rw (on-xor changed (bitXor rest (1 * 2 ^ i % 2 ^ fluentLimit)) j, on-xor rest (1 * 2 ^ i % 2 ^ fluentLimit) j, on-one-shl i fluentLimit j low)
           (elim (ℕ-discrete j i) [
             | no other ↦
-                rw (getD-set-other new i j (bitXor (getD new i 0) at) 0 other, no-truth (eqb j i) (λ e. other (eqb-true j i e)), with-none (on rest j))
+                rw (row-other new (fluentRows + i) at (fluentRows + j) q (λ e. other (omega arith)), no-truth (eqb j i) (λ e. other (eqb-true j i e)), with-none (on rest j))
                 (before j q)
             | yes e ↦
                 subst⁻¹
-                (λ (x : ℕ). on (getD (set new i (bitXor (getD new i 0) at)) x 0) q ≡ xor (on (getD old x 0) q) (on at q && xor (on changed x) (xor (on rest x) (eqb x i))))
+                (λ (x : ℕ). fluentHolds (turned new (fluentRows + i) at) x q ≡ xor (fluentHolds old x q) (on at q && xor (on changed x) (xor (on rest x) (eqb x i))))
                 e
-                (rw (getD-set-same new i (bitXor (getD new i 0) at) 0 (omega (arith, t .room)), on-xor (getD new i 0) at q, before i q, eq-eqb i i refl)
-                (one-turned (on (getD old i 0) q) (on at q) (on changed i) (on rest i)))
+                (here q)
           ]);
+      others = λ r q other.
+          row-other new (fluentRows + i) at r q (λ e. ⊎-elim (λ l. omega arith) (λ l. omega arith) other)
+          ∙ t .others r q other;
     }
   where
-    before : (j q : ℕ) → on (getD new j 0) q ≡ xor (on (getD old j 0) q) (on at q && xor (on changed j) (on rest j))
-    before j q = t .bits j q ∙ ap (λ (c : Bool). xor (on (getD old j 0) q) (on at q && c)) (on-xor changed rest j)
+    before : (j q : ℕ) → fluentHolds new j q ≡ xor (fluentHolds old j q) (on at q && xor (on changed j) (on rest j))
+    before j q = t .shown j q ∙ ap (λ (c : Bool). xor (fluentHolds old j q) (on at q && c)) (on-xor changed rest j)
+
+    inside : ltb i fluentLimit ≡ true
+    inside = lt-ltb i fluentLimit low
+
+    -- of a fluent of the table, only the row counts
+    own : (rows : List ℕ) (q : ℕ) → fluentHolds rows i q ≡ rowHolds rows (fluentRows + i) q
+    own rows q = rw inside
+
+    here : (q : ℕ) → fluentHolds (turned new (fluentRows + i) at) i q ≡ xor (fluentHolds old i q) (on at q && xor (on changed i) (xor (on rest i) (eqb i i)))
+    here q =
+        own (turned new (fluentRows + i) at) q
+        ∙ row-turned new (fluentRows + i) at q (omega (arith, t .room))
+        ∙ ap (λ (b : Bool). xor b (on at q)) (sym (own new q) ∙ before i q)
+        ∙ rw (eq-eqb i i refl) (one-turned (fluentHolds old i q) (on at q) (on changed i) (on rest i))
 
 -- every fluent that changed is turned
 pub turn-all : {old new : List ℕ} {changed rest at : ℕ} → rest ≡ 0 → Reversed old new (bitXor changed rest) at → Reversed old new changed at

@@ -1,7 +1,6 @@
--- What the acceptance of a world's rows tells: the log can be gone through. Knows refusals 3 and 5.
+-- What the acceptance of a world's rows tells: counts, table and log are as they should be, and the log can be gone through. Knows refusals 3 and 5.
 use mathlib.Core.Path.{_≡_}
 use mathlib.Core.Logic.{_⊎_, inl, inr}
-use mathlib.Core.List.{List}
 use Prim.Native.Nat.{ℕ, _*_, _≤_, _<_}
 use native.Mathlib.Decide.{ℕ-discrete}
 use native.Mathlib.Omega.{arith}
@@ -10,43 +9,46 @@ use Rattle.meaning.specs.Limits.{fluentLimit, actionLimit, logLimit}
 use Rattle.meaning.specs.Refusal.{Accepted, BadCounts, BadTable, BadMasks, BadLog}
 use Rattle.meaning.proofs.Refusal.{not-first, not-rest}
 use Rattle.meaning.specs.Theory.{stride}
-use Rattle.theory.specs.World.{Readable}
+use Rattle.theory.specs.Subject.{Subject, countsOf, Readable}
 use Rattle.theory.specs.Rows.{worldRows}
 
--- a world that no row refuses
-pub record Checked (fluents actions start : ℕ) (masks log : List ℕ) : Type 0 where
-  pub fewFluents : fluents ≤ fluentLimit
-  pub someActions : 1 ≤ actions
-  pub fewActions : actions ≤ actionLimit
-  pub table : length masks ≡ stride * actions
-  pub named : BadMasks fluents start masks → ⊥
-  pub short : length log ≤ logLimit
-  pub known : (k : ℕ) → k < length log → getD log k 0 < actions
+-- a subject that no row refuses
+pub record Checked (s : Subject) : Type 0 where
+  pub fewFluents : countsOf s .fluents ≤ fluentLimit
+  pub someActions : 1 ≤ countsOf s .actions
+  pub fewActions : countsOf s .actions ≤ actionLimit
+  pub table : length (s .masks) ≡ stride * countsOf s .actions
+  pub named : BadMasks (countsOf s .fluents) (s .setting .start) (s .masks) → ⊥
+  pub short : length (s .log) ≤ logLimit
+  pub known : (k : ℕ) → k < length (s .log) → getD (s .log) k 0 < countsOf s .actions
 
-pub checked : (fluents actions start : ℕ) (masks log : List ℕ) → Accepted (worldRows fluents actions start masks log)
-    → Checked fluents actions start masks log
-checked fluents actions start masks log a =
-    let counted : BadCounts fluents actions ⊎ BadTable actions masks → ⊥ = not-first a in
-    let logged : BadLog actions log → ⊥ = not-first (not-rest (not-rest a)) in
+pub checked : (s : Subject) → Accepted (worldRows s) → Checked s
+checked s a =
+    let fluents : ℕ = countsOf s .fluents in
+    let actions : ℕ = countsOf s .actions in
+    let counted : BadCounts fluents actions ⊎ BadTable actions (s .masks) → ⊥ = not-first a in
+    let logged : BadLog logLimit actions (s .log) → ⊥ = not-first (not-rest (not-rest a)) in
     let few : ¬ (fluentLimit < fluents) = λ h. counted (inl (inl h)) in
     let some : ¬ (actions < 1) = λ h. counted (inl (inr (inl h))) in
     let fits : ¬ (actionLimit < actions) = λ h. counted (inl (inr (inr h))) in
-    let long : ¬ (logLimit < length log) = λ h. logged (inl h) in
-    let strange : (k : ℕ) → k < length log → ¬ (actions ≤ getD log k 0) =
+    let long : ¬ (logLimit < length (s .log)) = λ h. logged (inl h) in
+    let strange : (k : ℕ) → k < length (s .log) → ¬ (actions ≤ getD (s .log) k 0) =
     λ k h l. logged (inr (record { place = k; there = h; lacking = l })) in
     record {
       fewFluents = omega arith;
       someActions = omega arith;
       fewActions = omega arith;
-      table = elim (ℕ-discrete (length masks) (stride * actions)) [ yes e ↦ e | no ne ↦ absurd (counted (inr ne)) ];
+      table = elim (ℕ-discrete (length (s .masks)) (stride * actions)) [ yes e ↦ e | no ne ↦ absurd (counted (inr ne)) ];
       named = not-first (not-rest a);
       short = omega arith;
       known = λ k h. omega (arith, strange k h);
     }
 
 -- its log can be gone through
-pub readable : {fluents actions start : ℕ} {masks log : List ℕ} → Checked fluents actions start masks log → Readable masks log
-readable {masks = masks} {log = log} c =
+pub readable : {s : Subject} → Checked s → Readable (s .masks) (s .log)
+readable {s} c =
+    let few = c .fewActions in
+    let table = c .table in
     record {
       short = c .short;
       known = λ k h. omega (arith, c .known k h);

@@ -1,4 +1,4 @@
--- The answer of a check against some rows of the refusals: none holds, or the one with the smallest number.
+-- The answer of a check against a list of refusals: none holds, or the number of the first that does.
 use mathlib.Core.List.{List}
 use Rattle.refusal.specs.Number.{numberOf}
 use Rattle.meaning.specs.Refusal.{Row, Accepted}

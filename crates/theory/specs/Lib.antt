@@ -1,6 +1,7 @@
-pub mod World
+pub mod Subject
 pub mod Rows
 pub mod Union
 pub mod Check
 pub mod Answer
+pub mod Possible
 pub mod Tables

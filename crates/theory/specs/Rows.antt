@@ -4,16 +4,29 @@ use mathlib.Core.List.{List, [], _∷_, _++_}
 use mathlib.Core.Logic.{_⊎_}
 use Prim.Native.Nat.{ℕ, _<_}
 use lib.ListN.{length}
+use Rattle.meaning.specs.Limits.{logLimit}
 use Rattle.meaning.specs.Refusal.{Row, _when_, BadCounts, BadTable, BadMasks, BadLog}
+use Rattle.theory.specs.Subject.{Subject, countsOf}
+use Rattle.theory.specs.declared.Counts.{Counts}
+use Rattle.theory.specs.declared.Setting.{Setting}
 
-abbrev pub theoryRows : ℕ → ℕ → ℕ → List ℕ → List {1} Row
-theoryRows fluents actions start masks =
-    (3 when (BadCounts fluents actions ⊎ BadTable actions masks)) ∷ (4 when BadMasks fluents start masks) ∷ []
+-- 3: a count out of its range
+abbrev pub CountsOut : Counts → Type 0
+CountsOut c = BadCounts (c .fluents) (c .actions)
 
-abbrev pub worldRows : ℕ → ℕ → ℕ → List ℕ → List ℕ → List {1} Row
-worldRows fluents actions start masks log = theoryRows fluents actions start masks ++ ((5 when BadLog actions log) ∷ [])
+abbrev pub theoryRows : Setting → List ℕ → List {1} Row
+theoryRows s masks =
+    (3 when (CountsOut (s .counts) ⊎ BadTable (s .counts .actions) masks)) ∷ (4 when BadMasks (s .counts .fluents) (s .start) masks) ∷ []
+
+abbrev pub logRows : Subject → List {1} Row
+logRows s = (5 when BadLog logLimit (countsOf s .actions) (s .log)) ∷ []
+
+abbrev pub worldRows : Subject → List {1} Row
+worldRows s = theoryRows (s .setting) (s .masks) ++ logRows s
 
 -- 10: "the position asked > the log's length"
-abbrev pub stateRows : ℕ → ℕ → ℕ → List ℕ → List ℕ → ℕ → List {1} Row
-stateRows fluents actions start masks log position =
-    worldRows fluents actions start masks log ++ ((10 when (length log < position)) ∷ [])
+abbrev pub positionRows : Subject → ℕ → List {1} Row
+positionRows s position = (10 when (length (s .log) < position)) ∷ []
+
+abbrev pub stateRows : Subject → ℕ → List {1} Row
+stateRows s position = worldRows s ++ positionRows s position

@@ -1,25 +1,31 @@
 // Refusals 3, 4 and 5, as every call about a world gives them: counts and table, masks, log. Each fault is one test; the checks put them in the order of
-// their numbers.
+// the list.
 ghost use mathlib.Core.Path.{_≡_};
 ghost use mathlib.Core.Logic.{_↔_};
 ghost use mathlib.Core.Bool.{true};
 ghost use Prim.Native.Nat.{_<_};
 ghost use lib.ListN.{length};
-ghost use Rattle.meaning.specs.Refusal.{BadCounts, NamesLacking, BadMasks, BadLog};
-ghost use Rattle.theory.specs.Rows.{theoryRows, worldRows};
+ghost use Rattle.meaning.specs.Limits.{logLimit};
+ghost use Rattle.meaning.specs.Refusal.{NamesLacking, BadMasks, BadLog};
+ghost use Rattle.theory.specs.Subject.{subjectOf};
+ghost use Rattle.theory.specs.Rows.{CountsOut, theoryRows, worldRows};
 ghost use Rattle.theory.specs.Check.{Settled};
 ghost use Rattle.theory.specs.Union.{Union};
 use crate::ACTION_LIMIT;
 use crate::Check;
+use crate::Counts;
 use crate::FLUENT_LIMIT;
 use crate::STRIDE;
+use crate::Setting;
 use positions::PositionSet;
 use refusal::Refusal;
 
 // A count is out of its range.
-pub fn bad_counts(fluents: usize, actions: usize) -> bool
-    ensures { λ r. ⌜ (r ≡ true) ↔ BadCounts fluents actions ⌝ }
+pub fn bad_counts(counts: Counts) -> bool
+    ensures { λ r. ⌜ (r ≡ true) ↔ CountsOut counts ⌝ }
 {
+    let fluents = counts.fluents;
+    let actions = counts.actions;
     if FLUENT_LIMIT < fluents {
         return true;
     }
@@ -65,7 +71,7 @@ pub fn bad_masks(fluents: usize, start: u32, masks: &[u32]) -> bool
 
 // The log is too long, or has an action that the theory lacks.
 pub fn bad_log(actions: usize, log: &[u8]) -> bool
-    ensures { λ r. ⌜ (r ≡ true) ↔ BadLog actions (now (log .entry)) ⌝ }
+    ensures { λ r. ⌜ (r ≡ true) ↔ BadLog logLimit actions (now (log .entry)) ⌝ }
 {
     if PositionSet::LOG_LIMIT < log.len() {
         return true;
@@ -82,29 +88,33 @@ pub fn bad_log(actions: usize, log: &[u8]) -> bool
 }
 
 // The counts and the table's length, then what the masks name.
-fn check_theory(fluents: usize, actions: usize, start: u32, masks: &[u32]) -> Check
-    ensures { λ r. ⌜ Settled (theoryRows fluents actions start (now (masks .entry))) r ⌝ }
+fn check_theory(s: Setting, masks: &[u32]) -> Check
+    ensures { λ r. ⌜ Settled (theoryRows s (now (masks .entry))) r ⌝ }
 {
-    if bad_counts(fluents, actions) {
+    let counts = s.counts;
+    let fluents = counts.fluents;
+    let actions = counts.actions;
+    if bad_counts(counts) {
         return Check::Refused(Refusal::BadNumber);
     }
     if masks.len() != STRIDE * actions {
         return Check::Refused(Refusal::BadNumber);
     }
-    if bad_masks(fluents, start, masks) {
+    if bad_masks(fluents, s.start, masks) {
         return Check::Refused(Refusal::LacksFluent);
     }
     Check::Sound
 }
 
 // The theory, then the log.
-pub fn check_world(fluents: usize, actions: usize, start: u32, masks: &[u32], log: &[u8]) -> Check
-    ensures { λ r. ⌜ Settled (worldRows fluents actions start (now (masks .entry)) (now (log .entry))) r ⌝ }
+pub fn check_world(s: Setting, masks: &[u32], log: &[u8]) -> Check
+    ensures { λ r. ⌜ Settled (worldRows (subjectOf s (now (masks .entry)) (now (log .entry)))) r ⌝ }
 {
-    match check_theory(fluents, actions, start, masks) {
+    match check_theory(s, masks) {
         Check::Refused(r) => Check::Refused(r),
         Check::Sound => {
-            if bad_log(actions, log) {
+            let counts = s.counts;
+            if bad_log(counts.actions, log) {
                 return Check::Refused(Refusal::BadLog);
             }
             Check::Sound

@@ -6,7 +6,7 @@ ghost use Prim.Native.Nat.{ℕ, _+_, _*_, _≤_};
 ghost use lib.ListN.{length};
 ghost use Rattle.meaning.specs.Theory.{Possible, stride, masksOf};
 ghost use Rattle.meaning.specs.Theory;
-ghost use Rattle.theory.specs.World.{tableMasks};
+ghost use Rattle.theory.specs.Subject.{tableMasks};
 use crate::STRIDE;
 
 // Every need bit is on and every ban bit off.

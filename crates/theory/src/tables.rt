@@ -1,27 +1,41 @@
-// The log, transposed: a word for each action and for each fluent, in which bit p is position p. Whoever asks of many positions at once asks these.
+// The log, transposed: a row of positions for each action, for each fluent, and one for the steps that were possible. Whoever asks of many positions at
+// once asks these. A row is a word, in which bit p is position p.
 ghost use mathlib.Core.Path.{_≡_};
 ghost use mathlib.Core.Bool.{_&&_};
 ghost use Prim.Native.Nat.{ℕ, _≤_, _<_};
 ghost use lib.Dec.{leb};
 ghost use lib.ListN.{length};
 ghost use Rattle.laws.specs.Bit.{on};
-ghost use Rattle.meaning.specs.Limits.{fluentLimit, actionLimit, places};
-ghost use Rattle.theory.specs.World.{Readable, worldOf};
-ghost use Rattle.theory.specs.Tables.{Describes, Noted, Reversed};
+ghost use Rattle.meaning.specs.Limits.{actionLimit, places};
+ghost use Rattle.theory.specs.Subject.{Readable, subjectOf, worldOf};
+ghost use Rattle.theory.specs.Tables.{rowCount, Describes, Noted, Reversed};
 use crate::ACTION_LIMIT;
 use crate::FLUENT_LIMIT;
+use crate::Setting;
 use crate::step;
 use positions::PositionSet;
 
-// The step at position p is action a: it is noted if it was possible.
-fn note(done: &mut [u64; ACTION_LIMIT], a: usize, p: usize, able: bool)
-    requires { ⌜ (length (now done) ≡ actionLimit) × (a < actionLimit) × (p < places) ⌝ }
-    ensures { λ _. ⌜ Noted (now (done .entry)) (now (done .exit)) a p able ⌝ }
+// The rows in their order: the actions, the fluents, and the steps that were possible.
+pub const ACTION_ROWS: usize = 0;
+
+pub const FLUENT_ROWS: usize = ACTION_ROWS + ACTION_LIMIT;
+
+pub const POSSIBLE_ROW: usize = FLUENT_ROWS + FLUENT_LIMIT;
+
+pub const ROWS: usize = POSSIBLE_ROW + 1;
+
+// The step at position p is action a: if it was possible, it is noted for the action and among the possible ones.
+fn note(rows: &mut [u64; ROWS], a: usize, p: usize, able: bool)
+    requires { ⌜ (length (now rows) ≡ rowCount) × (a < actionLimit) × (p < places) ⌝ }
+    ensures { λ _. ⌜ Noted (now (rows .entry)) (now (rows .exit)) a p able ⌝ }
 {
     if able {
-        let old = done[a];
         let bit = 1u64 << p;
-        done[a] = old | bit;
+        let row = ACTION_ROWS + a;
+        let taken = rows[row];
+        rows[row] = taken | bit;
+        let possible = rows[POSSIBLE_ROW];
+        rows[POSSIBLE_ROW] = possible | bit;
     }
 }
 
@@ -37,48 +51,43 @@ fn onward(p: usize, n: usize) -> u64
 }
 
 // Each fluent that changed is the other way at these positions: a turn for each.
-fn turn(lit: &mut [u64; FLUENT_LIMIT], changed: u32, places: u64)
-    requires { ⌜ length (now lit) ≡ fluentLimit ⌝ }
-    ensures { λ _. ⌜ Reversed (now (lit .entry)) (now (lit .exit)) changed places ⌝ }
+fn turn(rows: &mut [u64; ROWS], changed: u32, places: u64)
+    requires { ⌜ length (now rows) ≡ rowCount ⌝ }
+    ensures { λ _. ⌜ Reversed (now (rows .entry)) (now (rows .exit)) changed places ⌝ }
 {
     let mut rest = changed;
     while rest != 0 {
         let first = u32::trailing_zeros(rest);
         let i = first as usize;
-        let old = lit[i];
-        lit[i] = old ^ places;
+        let row = FLUENT_ROWS + i;
+        let old = rows[row];
+        rows[row] = old ^ places;
         let one = 1u32 << i;
         rest = rest ^ one;
     }
 }
 
-// Both tables, in one pass over the log: a state stands from its position on, until one after it turns what it changes. Whatever the tables held is gone.
-pub fn transpose(
-    masks: &[u32],
-    start: u32,
-    log: &[u8],
-    done: &mut [u64; ACTION_LIMIT],
-    lit: &mut [u64; FLUENT_LIMIT],
-)
+// All rows, in one pass over the log: a state stands from its position on, until one after it turns what it changes. Whatever the rows held is gone.
+pub fn transpose(s: Setting, masks: &[u32], log: &[u8], rows: &mut [u64; ROWS])
     requires { ⌜ Readable (now masks) (now log) ⌝ }
-    ensures { λ _. ⌜ ((fluents actions : ℕ) → Describes (worldOf fluents actions start (now (masks .entry)) (now (log .entry))) (now (done .exit)) (now (lit .exit))) ⌝ }
+    ensures { λ _. ⌜ Describes (worldOf (subjectOf s (now (masks .entry)) (now (log .entry)))) (now (rows .exit)) ⌝ }
 {
-    *done = [0u64; ACTION_LIMIT];
-    *lit = [0u64; FLUENT_LIMIT];
+    *rows = [0u64; ROWS];
+    let start = s.start;
     let n = log.len();
     let all = onward(0, n);
-    turn(lit, start, all);
+    turn(rows, start, all);
     let mut state = start;
     let mut p = 0;
     while p < n {
         let a = log[p] as usize;
         let able = step::able(masks, a, state);
-        note(done, a, p, able);
+        note(rows, a, p, able);
         let next = step::act(masks, a, state);
         p += 1;
         let rest = onward(p, n);
         let changed = state ^ next;
-        turn(lit, changed, rest);
+        turn(rows, changed, rest);
         state = next;
     }
 }

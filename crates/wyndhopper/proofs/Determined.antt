@@ -1,26 +1,46 @@
 -- Any two outcomes that the contract of an exported function allows are equal: its result and every lent slot.
 use mathlib.Core.Path.{_≡_, sym, ap, subst, _∙_}
-use mathlib.Core.Logic.{_⊎_, inl, inr}
+use mathlib.Core.Logic.{inl, inr}
 use mathlib.Core.Bool.{Bool}
 use mathlib.Core.List.{List, [], _++_}
 use mathlib.Core.Option.{Option, none, some}
 use Prim.Native.Nat.{ℕ}
-use native.Mathlib.Omega.{arith}
-use lib.ListN.{length, drop, length-drop}
-use Rattle.meaning.specs.Rule.{Kind, Walk, Test, ofWalk, ofTest, walkKind, testKind, jobKind, Opens}
-use Rattle.meaning.specs.Reach.{Reached}
+use lib.ListN.{length, drop}
+use Rattle.laws.specs.Bit.{on}
+use Rattle.laws.proofs.On.{same-bits}
+use Rattle.laws.proofs.Truth.{same-truth}
+use Rattle.meaning.specs.Rule.{Kind, Walk, Test, Rule, ofWalk, ofTest, testKind, Opens, text}
+use Rattle.meaning.specs.Reach.{ReachedAs}
+use Rattle.meaning.specs.Leads.{Holds}
+use Rattle.meaning.specs.Refusal.{YesOrNo}
 use Rattle.meaning.proofs.Reading.{unique-reading}
-use Rattle.meaning.proofs.Reach.{reached-unique}
+use Rattle.meaning.proofs.Reach.{reached-as-unique}
 use Rattle.meaning.proofs.Finish.{first-unique}
-use Rattle.meaning.proofs.Refusal.{refused-unique, refused-not-accepted}
-use Rattle.theory.specs.World.{worldOf}
+use Rattle.meaning.proofs.Refusal.{refused-unique, answered-determined, one-verdict}
+use Rattle.theory.specs.Subject.{Subject, worldOf}
+use Rattle.theory.specs.declared.Counts.{Counts}
 use Rattle.theory.specs.Answer.{StateAnswered}
-use Rattle.rule.proofs.Outcomes.{read-rule-determined}
+use Rattle.theory.specs.Possible.{PossibleAnswered}
 use Rattle.normal.proofs.Outcomes.{normal-determined}
 use Rattle.finish.specs.Answer.{Finished, FinishAnswered}
-use Rattle.ask.specs.Answer.{Verdict, VerdictRefused, VerdictFound}
+use Rattle.finish.specs.Next.{MayCome, NextAnswered}
+use Rattle.ask.specs.Reach.{ReachAnswered}
+use Rattle.ask.specs.Verdict.{VerdictAnswered}
+use Rattle.sheet.specs.declared.Parsed.{Parsed}
+use Rattle.sheet.specs.declared.SheetAnswer.{SheetAnswer}
+use Rattle.sheet.specs.declared.SheetAnswer.the-variants.{Faulty, Read}
+use Rattle.sheet.proofs.Determined.{one-refusal, refused-or-says, read-sheet-determined}
 use Rattle.wyndhopper.specs.Kinds.{kindAt}
-use Rattle.wyndhopper.specs.Exported.{ReachExported, slotOf, VerdictExported, RestOf, RestBy, RestExported, NormalBy, NormalExported}
+use Rattle.wyndhopper.specs.Exported.{slotOf, InSlot, RestBy, RestExported, NormalBy, NormalExported, lineNumbers, numbersOf, SheetExported}
+
+-- two accepted sheets that are one are handed back alike
+parsed-in : Parsed → SheetAnswer → Parsed
+parsed-in d (Faulty f) = d
+parsed-in d (Read p) = p
+
+read-same : {p q : Parsed} → Read p ≡ Read q → p ≡ q
+unfolding parsed-in
+read-same {p} e = ap (parsed-in p) e
 
 -- the bytes spell one walk of a kind, and one test
 one-walk : {kind : Kind} {bytes : List ℕ} {x y : Walk} → Opens kind bytes (ofWalk x) [] → Opens kind bytes (ofWalk y) [] → x ≡ y
@@ -29,103 +49,110 @@ one-walk o p = let e = unique-reading o p .0 in cc
 one-test : {bytes : List ℕ} {t u : Test} → Opens testKind bytes (ofTest t) [] → Opens testKind bytes (ofTest u) [] → t ≡ u
 one-test o p = let e = unique-reading o p .0 in cc
 
-module _ (fluents actions start : ℕ) (masks log : List ℕ) where
+-- a slot has what its verdict is
+one-slot : {Said : Option Bool → Type 0} {Said′ : Option Bool → Type 0} {X : Type 0} {yes yes′ : ℕ} (x : InSlot Said yes) (y : InSlot Said′ yes′)
+    → (Said (x .verdict) → Said′ (y .verdict) → X × (x .verdict ≡ y .verdict)) → X × (yes ≡ yes′)
+one-slot x y one = let both = one (x .said) (y .said) in (both .0, x .written ∙ ap slotOf (both .1) ∙ sym (y .written))
+
+module _ (s : Subject) where
   pub wyh-state-determined : (position : ℕ) {number number′ state state′ : ℕ}
-      → StateAnswered fluents actions start masks log position number state
-      → StateAnswered fluents actions start masks log position number′ state′
-      → (number ≡ number′) × (state ≡ state′)
-  wyh-state-determined position (inl x) (inl y) = (refused-unique (x .0) (y .0), x .1 ∙ sym (y .1))
-  wyh-state-determined position (inl x) (inr y) = absurd (refused-not-accepted (x .0) (y .1))
-  wyh-state-determined position (inr x) (inl y) = absurd (refused-not-accepted (y .0) (x .1))
-  wyh-state-determined position (inr x) (inr y) = (x .0 ∙ sym (y .0), x .2 ∙ sym (y .2))
+      → StateAnswered s position number state → StateAnswered s position number′ state′ → (number ≡ number′) × (state ≡ state′)
+  wyh-state-determined position x y = answered-determined x y (λ n p q. (n, p ∙ sym q)) (λ n p q. (n, p ∙ sym q))
+
+  pub wyh-possible-determined : (action position : ℕ) {number number′ yes yes′ : ℕ}
+      → InSlot (PossibleAnswered s action position number) yes → InSlot (PossibleAnswered s action position number′) yes′
+      → (number ≡ number′) × (yes ≡ yes′)
+  wyh-possible-determined action position x y =
+      one-slot x y (λ a b. answered-determined a b (λ n p q. (n, p ∙ sym q)) (λ n p q. (n, one-verdict p q)))
 
   pub wyh-reach-determined : (walk : List ℕ) (then now : ℕ) {number number′ set set′ count count′ earliest earliest′ : ℕ}
-      → ReachExported fluents actions start masks log walk then now number set count earliest
-      → ReachExported fluents actions start masks log walk then now number′ set′ count′ earliest′
+      → ReachAnswered s walk then now number set count earliest
+      → ReachAnswered s walk then now number′ set′ count′ earliest′
       → (number ≡ number′) × (set ≡ set′) × (count ≡ count′) × (earliest ≡ earliest′)
-  wyh-reach-determined walk then now (inl x) (inl y) =
-      (refused-unique (x .refused) (y .refused), x .empty ∙ sym (y .empty), x .none ∙ sym (y .none), x .past ∙ sym (y .past))
-  wyh-reach-determined walk then now (inl x) (inr y) = absurd (refused-not-accepted (x .refused) (y .accepted))
-  wyh-reach-determined walk then now (inr x) (inl y) = absurd (refused-not-accepted (y .refused) (x .accepted))
-  wyh-reach-determined walk then now {set′ = set′} {count′ = count′} {earliest′ = earliest′} (inr x) (inr y) =
-      let w = worldOf fluents actions start masks log in
-      let same = subst (λ (v : Walk). Reached w v then now set′ count′ earliest′) (one-walk (y .spells) (x .spells)) (y .reached) in
-      let (s, c, e) = reached-unique w (x .walk) then now (x .reached) same in
-      (x .none ∙ sym (y .none), s, c, e)
-
-  one-verdict : (test : List ℕ) (then now : ℕ) {number number′ : ℕ} {verdict verdict′ : Option Bool}
-      → VerdictRefused number verdict fluents actions start masks log test then now ⊎ VerdictFound number verdict fluents actions start masks log test then now
-      → VerdictRefused number′ verdict′ fluents actions start masks log test then now ⊎ VerdictFound number′ verdict′ fluents actions start masks log test then now
-      → (number ≡ number′) × (verdict ≡ verdict′)
-  one-verdict test then now (inl x) (inl y) = (refused-unique (x .refused) (y .refused), x .untold ∙ sym (y .untold))
-  one-verdict test then now (inl x) (inr y) = absurd (refused-not-accepted (x .refused) (y .accepted))
-  one-verdict test then now (inr x) (inl y) = absurd (refused-not-accepted (y .refused) (x .accepted))
-  one-verdict test then now {verdict = verdict} {verdict′ = verdict′} (inr x) (inr y) =
-      let w = worldOf fluents actions start masks log in
-      (x .none ∙ sym (y .none), told (x .told) (subst (λ (t : Test). Verdict w t then now verdict′) (one-test (y .spells) (x .spells)) (y .told)))
-    where
-      -- a test is not both true and not true
-      told : Verdict (worldOf fluents actions start masks log) (x .test) then now verdict → Verdict (worldOf fluents actions start masks log) (x .test) then now verdict′ → verdict ≡ verdict′
-      told (inl h) (inl k) = h .0 ∙ sym (k .0)
-      told (inl h) (inr k) = absurd (k .1 (h .1))
-      told (inr h) (inl k) = absurd (h .1 (k .1))
-      told (inr h) (inr k) = h .0 ∙ sym (k .0)
+  wyh-reach-determined walk then now {set′ = set′} {count′ = count′} {earliest′ = earliest′} x y =
+      answered-determined x y
+      (λ n p q. (n, p .0 ∙ sym (q .0), p .1 ∙ sym (q .1), p .2 ∙ sym (q .2)))
+      (λ n p q.
+      let same = subst (λ (v : Walk). ReachedAs (worldOf s) v then now set′ count′ earliest′) (one-walk (q .spells) (p .spells)) (q .reached) in
+      let (a, c, e) = reached-as-unique (worldOf s) (p .walk) then now (p .reached) same in
+      (n, a, c, e))
 
   pub wyh-verdict-determined : (test : List ℕ) (then now : ℕ) {number number′ yes yes′ : ℕ}
-      → VerdictExported fluents actions start masks log test then now number yes
-      → VerdictExported fluents actions start masks log test then now number′ yes′
+      → InSlot (VerdictAnswered s test then now number) yes → InSlot (VerdictAnswered s test then now number′) yes′
       → (number ≡ number′) × (yes ≡ yes′)
   wyh-verdict-determined test then now x y =
-      let (n, v) = one-verdict test then now (x .told) (y .told) in
-      (n, x .slot ∙ ap slotOf v ∙ sym (y .slot))
+      one-slot x y (λ a b.
+      answered-determined a b
+      (λ n p q. (n, p ∙ sym q))
+      (λ n p q. (n, one-verdict (p .judged) (subst (λ (t : Test). YesOrNo (Holds (worldOf s) t then now) (y .verdict)) (one-test (q .spells) (p .spells)) (q .judged)))))
 
   pub wyh-finish-determined : (job : List ℕ) (more : ℕ) (before : List ℕ) {after after′ : List ℕ} {number number′ count count′ : ℕ}
-      → FinishAnswered fluents actions start masks log job more before after number count
-      → FinishAnswered fluents actions start masks log job more before after′ number′ count′
+      → FinishAnswered s job more before number count after
+      → FinishAnswered s job more before number′ count′ after′
       → (number ≡ number′) × (count ≡ count′) × (after ≡ after′)
-  wyh-finish-determined job more before {after′ = after′} {count′ = count′} (inl x) (inl y) =
-      let w = worldOf fluents actions start masks log in
-      let f = x .finished in
-      let g = subst (λ (z : Walk). Finished w z more before after′ count′) (one-walk (y .spells) (x .spells)) (y .finished) in
-      let e = first-unique w (x .walk) more (f .ending) (g .ending) (f .first) (g .first) in (
-        x .none ∙ sym (y .none),
+  wyh-finish-determined job more before {after′ = after′} {count′ = count′} x y =
+      answered-determined x y
+      (λ n p q. (n, p .0 ∙ sym (q .0), p .1 ∙ sym (q .1)))
+      (λ n p q.
+      let f = p .finished in
+      let g = subst (λ (z : Walk). Finished (worldOf s) z more before after′ count′) (one-walk (q .spells) (p .spells)) (q .finished) in
+      let e = first-unique (worldOf s) (p .walk) more (f .ending) (g .ending) (f .first) (g .first) in (
+        n,
         f .counted ∙ ap length e ∙ sym (g .counted),
         f .written ∙ ap (λ (l : List ℕ). l ++ drop (length l) before) e ∙ sym (g .written),
-      )
-  wyh-finish-determined job more before (inl x) (inr y) = absurd (refused-not-accepted (y .refused) (x .accepted))
-  wyh-finish-determined job more before (inr x) (inl y) = absurd (refused-not-accepted (x .refused) (y .accepted))
-  wyh-finish-determined job more before (inr x) (inr y) = (refused-unique (x .refused) (y .refused), x .none ∙ sym (y .none), x .kept ∙ sym (y .kept))
+      ))
 
-module _ (bytes : List ℕ) (fluents actions : ℕ) where
-  -- a part inside the text begins at one place
-  one-place : {kind : Kind} {number number′ rest rest′ : ℕ} (x : RestOf kind bytes fluents actions number rest) (y : RestOf kind bytes fluents actions number′ rest′)
-      → x .part ≡ y .part → rest ≡ rest′
-  one-place {rest = rest} {rest′ = rest′} x y e =
-      let same : length (drop rest bytes) ≡ length (drop rest′ bytes) = ap length (sym (x .begins) ∙ e ∙ y .begins) in
-      omega (arith, x .inside, y .inside, length-drop rest bytes, length-drop rest′ bytes)
+  pub wyh-next-determined : (job : List ℕ) {number number′ actions actions′ : ℕ}
+      → NextAnswered s job number actions → NextAnswered s job number′ actions′ → (number ≡ number′) × (actions ≡ actions′)
+  wyh-next-determined job {actions = a} {actions′ = b} x y =
+      answered-determined x y
+      (λ n p q. (n, p ∙ sym q))
+      (λ n p q.
+      let f = p .told in
+      let g = subst (λ (z : Walk). MayCome (worldOf s) z b) (one-walk (q .spells) (p .spells)) (q .told) in
+      (n, same-bits a b (λ i. same-truth (on a i) (on b i) (λ h. g i .1 (f i .0 h)) (λ h. f i .1 (g i .0 h)))))
 
-  rest-determined : (k : Option Kind) {number number′ rest rest′ : ℕ} → RestBy k bytes fluents actions number rest → RestBy k bytes fluents actions number′ rest′
+module _ (bytes : List ℕ) (counts : Counts) where
+  rest-determined : (k : Option Kind) {number number′ rest rest′ : ℕ} → RestBy k bytes counts number rest → RestBy k bytes counts number′ rest′
       → (number ≡ number′) × (rest ≡ rest′)
-  rest-determined (some kind) {number} {number′} x y =
-      let (n, e) = read-rule-determined kind bytes fluents actions number number′ (x .part) (y .part) (x .outcome) (y .outcome) in
-      (n, one-place x y e)
+  rest-determined (some kind) x y =
+      answered-determined x y
+      (λ n p q. (n, p ∙ sym q))
+      (λ n p q. (n, p .behind ∙ ap (λ (r : Rule). length (text r)) (unique-reading (p .opens) (q .opens) .0) ∙ sym (q .behind)))
   rest-determined none x y = (refused-unique (x .0) (y .0), x .1 ∙ sym (y .1))
 
   pub wyh-read-rule-determined : (kind : ℕ) {number number′ rest rest′ : ℕ}
-      → RestExported kind bytes fluents actions number rest
-      → RestExported kind bytes fluents actions number′ rest′
-      → (number ≡ number′) × (rest ≡ rest′)
+      → RestExported kind bytes counts number rest → RestExported kind bytes counts number′ rest′ → (number ≡ number′) × (rest ≡ rest′)
   wyh-read-rule-determined kind = rest-determined (kindAt kind)
 
   written-determined : (k : Option Kind) (before : List ℕ) {number number′ count count′ : ℕ} {after after′ : List ℕ}
-      → NormalBy k bytes fluents actions before number count after
-      → NormalBy k bytes fluents actions before number′ count′ after′
+      → NormalBy k bytes counts before number count after
+      → NormalBy k bytes counts before number′ count′ after′
       → (number ≡ number′) × (count ≡ count′) × (after ≡ after′)
   written-determined (some kind) before x y = normal-determined x y
   written-determined none before x y = (refused-unique (x .0) (y .0), x .1 ∙ sym (y .1), x .2 ∙ sym (y .2))
 
   pub wyh-normal-determined : (kind : ℕ) (before : List ℕ) {number number′ count count′ : ℕ} {after after′ : List ℕ}
-      → NormalExported kind bytes fluents actions before number count after
-      → NormalExported kind bytes fluents actions before number′ count′ after′
+      → NormalExported kind bytes counts before number count after
+      → NormalExported kind bytes counts before number′ count′ after′
       → (number ≡ number′) × (count ≡ count′) × (after ≡ after′)
   wyh-normal-determined kind before = written-determined (kindAt kind) before
+
+-- a sheet in numbers
+pub wyh-read-sheet-determined :
+    (bytes masks log : List ℕ) {number number′ : ℕ} {numbers numbers′ m m′ l l′ : List ℕ}
+    → SheetExported bytes masks log number numbers m l → SheetExported bytes masks log number′ numbers′ m′ l′
+    → (number ≡ number′) × (numbers ≡ numbers′) × (m ≡ m′) × (l ≡ l′)
+wyh-read-sheet-determined bytes masks log (inl x) (inl y) =
+    let e = one-refusal bytes _ _ (x .place) (y .place) (x .refused .refused) (y .refused .refused) in (
+      e .0,
+      x .told ∙ ap lineNumbers (e .1) ∙ sym (y .told),
+      x .refused .kept ∙ sym (y .refused .kept),
+      x .refused .keptLog ∙ sym (y .refused .keptLog),
+    )
+wyh-read-sheet-determined bytes masks log (inl x) (inr y) = absurd (refused-or-says bytes _ (x .place) (y .handed .sheet) (x .refused .refused) (y .handed .says))
+wyh-read-sheet-determined bytes masks log (inr x) (inl y) = absurd (refused-or-says bytes _ (y .place) (x .handed .sheet) (y .refused .refused) (x .handed .says))
+wyh-read-sheet-determined bytes masks log {m = m} {m′ = m′} {l = l} {l′ = l′} (inr x) (inr y) =
+    let e = read-sheet-determined bytes masks log (Read (x .parsed)) (Read (y .parsed)) m m′ l l′ (x .handed) (y .handed) in
+    let same : x .parsed ≡ y .parsed = read-same (e .0) in
+    (x .none ∙ sym (y .none), x .told ∙ ap numbersOf same ∙ sym (y .told), e .1, e .2)

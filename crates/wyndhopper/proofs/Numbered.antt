@@ -8,9 +8,10 @@ use lib.Dec.{T, eqb, eqb→eq}
 use lib.ListN.{length}
 use Rattle.meaning.specs.Rule.{Kind, testKind, walkKind, jobKind}
 use Rattle.meaning.specs.Refusal.{Refused, noCount}
+use Rattle.theory.specs.declared.Counts.{Counts}
 use Rattle.normal.specs.Answer.{NormalOutcome}
 use Rattle.wyndhopper.specs.Kinds.{kindAt, noKindRows}
-use Rattle.wyndhopper.specs.Exported.{RestOf, RestBy, RestExported, NormalBy, NormalExported}
+use Rattle.wyndhopper.specs.Exported.{RestBy, RestExported, NormalBy, NormalExported}
 
 differs : (m n : ℕ) → (m ≡ n → ⊥) → eqb m n ≡ false
 differs m n h = go (eqb m n) (λ t. h (eqb→eq m n t))
@@ -27,21 +28,19 @@ no-kind-at k not-test not-walk not-job =
     let test : Bool → Option Kind = λ b. cond b (some testKind) (walk (eqb k 1)) in
     ap test (differs k 0 not-test) ∙ ap walk (differs k 1 not-walk) ∙ ap job (differs k 2 not-job)
 
-module _ {fluents actions number : ℕ} where
-  pub rest-at : {k j : ℕ} {kind : Kind} {bytes : List ℕ} {rest : ℕ} → k ≡ j → kindAt j ≡ some kind → RestOf kind bytes fluents actions number rest
-      → RestExported k bytes fluents actions number rest
-  rest-at {bytes = bytes} {rest = rest} e f = subst⁻¹ (λ (o : Option Kind). RestBy o bytes fluents actions number rest) (ap kindAt e ∙ f)
+module _ {counts : Counts} {number : ℕ} where
+  pub rest-at : {k j : ℕ} {kind : Kind} {bytes : List ℕ} {rest : ℕ} → k ≡ j → kindAt j ≡ some kind → RestBy (some kind) bytes counts number rest
+      → RestExported k bytes counts number rest
+  rest-at {bytes = bytes} {rest = rest} e f = subst⁻¹ (λ (o : Option Kind). RestBy o bytes counts number rest) (ap kindAt e ∙ f)
 
-  pub no-rest : (k : ℕ) (bytes : List ℕ) → kindAt k ≡ none → Refused (noKindRows fluents actions) number
-      → RestExported k bytes fluents actions number (length bytes)
-  no-rest k bytes e r = subst⁻¹ (λ (o : Option Kind). RestBy o bytes fluents actions number (length bytes)) e (r, refl)
+  pub no-rest : (k : ℕ) (bytes : List ℕ) → kindAt k ≡ none → Refused (noKindRows counts) number → RestExported k bytes counts number (length bytes)
+  no-rest k bytes e r = subst⁻¹ (λ (o : Option Kind). RestBy o bytes counts number (length bytes)) e (r, refl)
 
   pub normal-at : {k j : ℕ} {kind : Kind} {bytes before : List ℕ} {count : ℕ} {after : List ℕ} → k ≡ j → kindAt j ≡ some kind
-      → NormalOutcome kind bytes fluents actions before number count after
-      → NormalExported k bytes fluents actions before number count after
+      → NormalOutcome kind bytes counts before number count after → NormalExported k bytes counts before number count after
   normal-at {bytes = bytes} {before = before} {count = count} {after = after} e f =
-      subst⁻¹ (λ (o : Option Kind). NormalBy o bytes fluents actions before number count after) (ap kindAt e ∙ f)
+      subst⁻¹ (λ (o : Option Kind). NormalBy o bytes counts before number count after) (ap kindAt e ∙ f)
 
-  pub no-normal : (k : ℕ) (bytes before : List ℕ) → kindAt k ≡ none → Refused (noKindRows fluents actions) number
-      → NormalExported k bytes fluents actions before number noCount before
-  no-normal k bytes before e r = subst⁻¹ (λ (o : Option Kind). NormalBy o bytes fluents actions before number noCount before) e (r, refl, refl)
+  pub no-normal : (k : ℕ) (bytes before : List ℕ) → kindAt k ≡ none → Refused (noKindRows counts) number
+      → NormalExported k bytes counts before number noCount before
+  no-normal k bytes before e r = subst⁻¹ (λ (o : Option Kind). NormalBy o bytes counts before number noCount before) e (r, refl, refl)

@@ -1,42 +1,50 @@
 -- Laws of what goes into the lent slots: a count and an earliest position are small, and a part of a text is the place where it begins. No code.
-use mathlib.Core.Path.{_≡_, sym, ap, subst⁻¹, _∙_}
+use mathlib.Core.Path.{_≡_, sym, ap, subst, _∙_}
 use mathlib.Core.Logic.{inl, inr}
 use mathlib.Core.List.{List}
 use Prim.Native.Nat.{ℕ, _+_, _-_, _≤_}
 use native.Mathlib.Omega.{arith}
+use denote.Ref.{RefT, now}
 use lib.ListN.{length, drop, length-append}
-use lib.Seq.{drop-length, drop-at}
-use Rattle.laws.specs.Bit.{on}
+use lib.Seq.{drop-at}
+use mathlib.Core.Option.{some}
 use Rattle.laws.proofs.Count.{count-le}
 use Rattle.laws.proofs.First.{first-le}
 use Rattle.meaning.specs.Limits.{places}
-use Rattle.meaning.specs.Rule.{Kind, text}
+use Rattle.meaning.specs.Rule.{Kind, Opens, text}
+use Rattle.theory.specs.Subject.{Subject}
+use Rattle.theory.specs.declared.Counts.{Counts}
+use Rattle.ask.specs.Reach.{ReachAnswered}
 use Rattle.rule.specs.Outcome.{ReadOutcome}
-use Rattle.wyndhopper.specs.Exported.{ReachExported, RestOf}
+use Rattle.wyndhopper.specs.Exported.{RestBy}
 
-pub reach-small : {fluents actions start : ℕ} {masks log bytes : List ℕ} {then now number set count earliest : ℕ}
-    → ReachExported fluents actions start masks log bytes then now number set count earliest
-    → (count ≤ places) × (earliest ≤ places)
-reach-small (inl r) = (omega (arith, r .none), omega (arith, r .past))
-reach-small {set = set} (inr r) = (omega (arith, r .reached .counted, count-le places (on set)), omega (arith, r .reached .first, first-le places (on set)))
+pub reach-small : {s : Subject} {bytes : List ℕ} {then now number set count earliest : ℕ}
+    → ReachAnswered s bytes then now number set count earliest → (count ≤ places) × (earliest ≤ places)
+reach-small (inl r) = (omega (arith, r .blank .1), omega (arith, r .blank .2))
+reach-small (inr r) =
+    let found = r .right .reached in (
+      omega (arith, found .reached .counted, count-le places (found .held)),
+      omega (arith, found .reached .first, first-le places (found .held)),
+    )
 
 -- where the part that is handed back begins
-pub rest-of : {kind : Kind} {bytes : List ℕ} {fluents actions number : ℕ} {part : List ℕ} → ReadOutcome kind bytes fluents actions number part
-    → (length part ≤ length bytes) × RestOf kind bytes fluents actions number (length bytes - length part)
-rest-of {bytes = bytes} {part = part} (inl h) =
-    let whole : length bytes ≡ length (text (h .rule)) + length part = ap length (h .opens .spells) ∙ length-append (text (h .rule)) part in
-    let seam : length (text (h .rule)) ≡ length bytes - length part = omega arith in (
+pub rest-of : (kind : Kind) (whole : RefT (List ℕ)) (counts : Counts) (number : ℕ) (part : RefT (List ℕ)) → ReadOutcome kind whole counts number part
+    → (length (now part) ≤ length (now whole)) × RestBy (some kind) (now whole) counts number (length (now whole) - length (now part))
+rest-of kind whole counts number part (inl r) =
+    let none : length (now part) ≡ 0 = ap length (r .blank .bytes) in
+    (omega arith, inl (record { refused = r .refused; blank = omega arith }))
+rest-of kind whole counts number part (inr r) =
+    let unread = r .right in
+    let bytes : List ℕ = now whole in
+    let held : length (now part) ≡ length (unread .rest) = ap length (unread .from .bytes) in
+    let all : length bytes ≡ length (text (unread .rule)) + length (unread .rest) = ap length (unread .opens .spells) ∙ length-append (text (unread .rule)) (unread .rest) in
+    let place : length (text (unread .rule)) ≡ length bytes - length (now part) = omega arith in
+    let behind : drop (length bytes - length (now part)) bytes ≡ unread .rest =
+    ap (drop (length bytes - length (now part))) (unread .opens .spells) ∙ drop-at (text (unread .rule)) (unread .rest) (length bytes - length (now part)) place in (
       omega arith,
-      record {
-        part = part;
-        outcome = inl h;
-        inside = omega arith;
-        begins = sym (subst⁻¹ (λ (l : List ℕ). drop (length bytes - length part) l ≡ part) (h .opens .spells) (drop-at (text (h .rule)) part (length bytes - length part) seam));
-      },
-    )
-rest-of {bytes = bytes} {part = part} (inr h) =
-    let nothing : length part ≡ 0 = ap length (h .empty) in
-    let all : length bytes ≡ length bytes - length part = omega arith in (
-      omega arith,
-      record { part = part; outcome = inr h; inside = omega arith; begins = h .empty ∙ sym (drop-length bytes) ∙ ap (λ (k : ℕ). drop k bytes) all },
+      inr (record {
+        none = r .none;
+        accepted = r .accepted;
+        right = record { rule = unread .rule; opens = subst (Opens kind bytes (unread .rule)) (sym behind) (unread .opens); behind = sym place };
+      }),
     )

@@ -1,9 +1,13 @@
 // The library for programs in other languages: each function is thin over a proved call and promises what that call promises. A slice is a pointer and a
 // length in C; a number beside the refusal is a lent slot, which is always written. Nothing is kept between calls.
 ghost use Rattle.theory.specs.Answer.{StateAnswered};
+ghost use Rattle.theory.specs.Possible.{PossibleAnswered};
+ghost use Rattle.ask.specs.Reach.{ReachAnswered};
+ghost use Rattle.ask.specs.Verdict.{VerdictAnswered};
 ghost use Rattle.finish.specs.Answer.{FinishAnswered};
-ghost use Rattle.answer.specs.Told.{Told};
-ghost use Rattle.wyndhopper.specs.Exported.{ReachExported, VerdictExported, RestExported, NormalExported};
+ghost use Rattle.finish.specs.Next.{NextAnswered};
+ghost use Rattle.answer.specs.Written.{AnswerWritten};
+ghost use Rattle.wyndhopper.specs.Exported.{asked, counted, InSlot, RestExported, NormalExported, SheetExported};
 
 mod kinds; // kinds.rt: a kind as a number
 
@@ -11,7 +15,17 @@ use answer::ANSWER_ROOM;
 use ask::ReachAnswer;
 use ask::VerdictAnswer;
 use finish::FinishAnswer;
+use finish::NextAnswer;
+use sheet::LOG_ROOM;
+use sheet::MASKS_ROOM;
+use sheet::SheetAnswer;
+use theory::Counts;
+use theory::PossibleAnswer;
+use theory::Setting;
 use theory::StateAnswer;
+
+// How many numbers a sheet is told in: its line where it is refused, fluents, actions, start, the log's steps, where ask and run begin and end, more.
+pub const SHEET_NUMBERS: usize = 10;
 
 // The state at a position of the log.
 #[no_mangle]
@@ -24,15 +38,49 @@ pub extern "C" fn wyh_state(
     position: usize,
     state: &mut u32,
 ) -> u8
-    ensures { λ r. ⌜ StateAnswered fluents actions start (now (masks .entry)) (now (log .entry)) position r (now (state .exit)) ⌝ }
+    ensures { λ r. ⌜ StateAnswered (asked fluents actions start (now (masks .entry)) (now (log .entry))) position r (now (state .exit)) ⌝ }
 {
-    match theory::state(fluents, actions, start, masks, log, position) {
+    let counts = Counts { fluents, actions };
+    let s = Setting { counts, start };
+    match theory::state(s, masks, log, position) {
         StateAnswer::Refused(why) => {
             *state = 0;
             refusal::number(why)
         }
         StateAnswer::State(s) => {
             *state = s;
+            0
+        }
+    }
+}
+
+// Whether an action may be taken at a position of the log: 1 or 0 in the slot.
+#[no_mangle]
+pub extern "C" fn wyh_possible(
+    fluents: usize,
+    actions: usize,
+    start: u32,
+    masks: &[u32],
+    log: &[u8],
+    action: usize,
+    position: usize,
+    yes: &mut u8,
+) -> u8
+    ensures { λ r. ⌜ InSlot (PossibleAnswered (asked fluents actions start (now (masks .entry)) (now (log .entry))) action position r) (now (yes .exit)) ⌝ }
+{
+    let counts = Counts { fluents, actions };
+    let s = Setting { counts, start };
+    match theory::possible(s, masks, log, action, position) {
+        PossibleAnswer::Refused(why) => {
+            *yes = 0;
+            refusal::number(why)
+        }
+        PossibleAnswer::Yes => {
+            *yes = 1;
+            0
+        }
+        PossibleAnswer::No => {
+            *yes = 0;
             0
         }
     }
@@ -53,9 +101,11 @@ pub extern "C" fn wyh_reach(
     count: &mut u32,
     earliest: &mut u32,
 ) -> u8
-    ensures { λ r. ⌜ ReachExported fluents actions start (masks .entry .now) (log .entry .now) (walk .entry .now) then now r (set .exit .now) (count .exit .now) (earliest .exit .now) ⌝ }
+    ensures { λ r. ⌜ ReachAnswered (asked fluents actions start (masks .entry .now) (log .entry .now)) (walk .entry .now) then now r (set .exit .now) (count .exit .now) (earliest .exit .now) ⌝ }
 {
-    match ask::reach(fluents, actions, start, masks, log, walk, then, now) {
+    let counts = Counts { fluents, actions };
+    let s = Setting { counts, start };
+    match ask::reach(s, masks, log, walk, then, now) {
         ReachAnswer::Refused(why) => {
             *set = 0;
             *count = 0;
@@ -88,9 +138,11 @@ pub extern "C" fn wyh_verdict(
     now: usize,
     yes: &mut u8,
 ) -> u8
-    ensures { λ r. ⌜ VerdictExported fluents actions start (masks .entry .now) (log .entry .now) (test .entry .now) then now r (yes .exit .now) ⌝ }
+    ensures { λ r. ⌜ InSlot (VerdictAnswered (asked fluents actions start (masks .entry .now) (log .entry .now)) (test .entry .now) then now r) (yes .exit .now) ⌝ }
 {
-    match ask::verdict(fluents, actions, start, masks, log, test, then, now) {
+    let counts = Counts { fluents, actions };
+    let s = Setting { counts, start };
+    match ask::verdict(s, masks, log, test, then, now) {
         VerdictAnswer::Refused(why) => {
             *yes = 0;
             refusal::number(why)
@@ -119,15 +171,44 @@ pub extern "C" fn wyh_finish(
     out: &mut [u8],
     count: &mut usize,
 ) -> u8
-    ensures { λ r. ⌜ FinishAnswered fluents actions start (now (masks .entry)) (now (log .entry)) (now (job .entry)) more (now (out .entry)) (now (out .exit)) r (now (count .exit)) ⌝ }
+    ensures { λ r. ⌜ FinishAnswered (asked fluents actions start (now (masks .entry)) (now (log .entry))) (now (job .entry)) more (now (out .entry)) r (now (count .exit)) (now (out .exit)) ⌝ }
 {
-    match finish::finish(fluents, actions, start, masks, log, job, more, out) {
+    let counts = Counts { fluents, actions };
+    let s = Setting { counts, start };
+    match finish::finish(s, masks, log, job, more, out) {
         FinishAnswer::Refused(why) => {
             *count = 0;
             refusal::number(why)
         }
         FinishAnswer::Written(n) => {
             *count = n;
+            0
+        }
+    }
+}
+
+// The actions that may come next in the job, bit a for action a.
+#[no_mangle]
+pub extern "C" fn wyh_next(
+    fluents: usize,
+    actions: usize,
+    start: u32,
+    masks: &[u32],
+    log: &[u8],
+    job: &[u8],
+    next: &mut u64,
+) -> u8
+    ensures { λ r. ⌜ NextAnswered (asked fluents actions start (now (masks .entry)) (now (log .entry))) (now (job .entry)) r (now (next .exit)) ⌝ }
+{
+    let counts = Counts { fluents, actions };
+    let s = Setting { counts, start };
+    match finish::next(s, masks, log, job) {
+        NextAnswer::Refused(why) => {
+            *next = 0;
+            refusal::number(why)
+        }
+        NextAnswer::Actions(found) => {
+            *next = found;
             0
         }
     }
@@ -142,9 +223,10 @@ pub extern "C" fn wyh_read_rule(
     actions: usize,
     rest: &mut usize,
 ) -> u8
-    ensures { λ r. ⌜ RestExported kind (now (text .entry)) fluents actions r (now (rest .exit)) ⌝ }
+    ensures { λ r. ⌜ RestExported kind (now (text .entry)) (counted fluents actions) r (now (rest .exit)) ⌝ }
 {
-    kinds::read(text, kind, fluents, actions, rest)
+    let counts = Counts { fluents, actions };
+    kinds::read(text, kind, counts, rest)
 }
 
 // The normal form of a rule, at the front of the output.
@@ -157,15 +239,55 @@ pub extern "C" fn wyh_normal(
     out: &mut [u8],
     count: &mut usize,
 ) -> u8
-    ensures { λ r. ⌜ NormalExported kind (now (text .entry)) fluents actions (now (out .entry)) r (now (count .exit)) (now (out .exit)) ⌝ }
+    ensures { λ r. ⌜ NormalExported kind (now (text .entry)) (counted fluents actions) (now (out .entry)) r (now (count .exit)) (now (out .exit)) ⌝ }
 {
-    kinds::normal(text, kind, fluents, actions, out, count)
+    let counts = Counts { fluents, actions };
+    kinds::normal(text, kind, counts, out, count)
 }
 
 // What the program jobsheet prints for a sheet, at the front of the output.
 #[no_mangle]
 pub extern "C" fn wyh_answer(sheet: &[u8], out: &mut [u8; ANSWER_ROOM]) -> usize
-    ensures { λ r. ⌜ Told (now (sheet .entry)) (now (out .entry)) (now (out .exit)) r ⌝ }
+    ensures { λ r. ⌜ AnswerWritten (now (sheet .entry)) (now (out .entry)) (now (out .exit)) r ⌝ }
 {
     answer::answer(sheet, out)
+}
+
+// Reads a sheet: what it says, in the lent tables and numbers, which a refusal leaves as they were, but for the line.
+#[no_mangle]
+pub extern "C" fn wyh_read_sheet(
+    sheet: &[u8],
+    masks: &mut [u32; MASKS_ROOM],
+    log: &mut [u8; LOG_ROOM],
+    numbers: &mut [usize; SHEET_NUMBERS],
+) -> u8
+    ensures { λ r. ⌜ SheetExported (now (sheet .entry)) (now (masks .entry)) (now (log .entry)) r (now (numbers .exit)) (now (masks .exit)) (now (log .exit)) ⌝ }
+{
+    match sheet::read_sheet(sheet, masks, log) {
+        SheetAnswer::Faulty(f) => {
+            *numbers = [f.line, 0, 0, 0, 0, 0, 0, 0, 0, 0];
+            let why = f.refusal;
+            refusal::number(why)
+        }
+        SheetAnswer::Read(p) => {
+            let setting = p.setting;
+            let counts = setting.counts;
+            let start = setting.start as usize;
+            let ask = p.ask;
+            let run = p.run;
+            *numbers = [
+                0,
+                counts.fluents,
+                counts.actions,
+                start,
+                p.steps,
+                ask.start,
+                ask.end,
+                run.start,
+                run.end,
+                p.more,
+            ];
+            0
+        }
+    }
 }

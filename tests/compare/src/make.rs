@@ -126,19 +126,55 @@ pub fn test(d: &mut Dice, depth: usize, fluents: usize, actions: usize) -> Strin
     }
 }
 
-/// A rule's text, mostly right; `kind` 0 test, 1 walk, 2 job.
-pub fn rule(d: &mut Dice, kind: u8, fluents: usize, actions: usize) -> Vec<u8> {
+/// A rule's text, mostly right; `kind` 0 test, 1 walk, 2 run.
+pub fn rule(d: &mut Dice, kind: u8, i: &Input) -> Vec<u8> {
+    let (fluents, actions) = (i.fluents.min(100), i.actions.clamp(1, 100));
     let depth = 1 + d.below(6);
-    let mut text = loop {
+    let text = loop {
         let t = if kind == 0 { test(d, depth, fluents, actions) } else { walk(d, depth, fluents, actions, kind == 2) };
         if t.len() <= 300 {
-            break t.into_bytes();
+            break t;
         }
     };
+    damaged(d, text)
+}
+
+fn damaged(d: &mut Dice, text: String) -> Vec<u8> {
+    let mut text = text.into_bytes();
     if d.once_in(12) {
         damage_text(d, &mut text);
     }
     text
+}
+
+/// A run over a job: any walk; one that begins with `*n` and so asks for every action; one that goes by the log's own steps and then some more; one that nothing finishes. The second
+/// implementation tries every sequence, so a run that asks for every action has a short log.
+pub fn run(d: &mut Dice, i: &Input, more: usize) -> (Vec<u8>, Input) {
+    let mut i = i.clone();
+    let actions = i.actions.clamp(1, 100);
+    let shape = d.below(8);
+    if shape < 4 {
+        i.log.truncate(5);
+    }
+    let text = match shape {
+        0 => format!(";*n{}", walk(d, 3, i.fluents.min(100), actions, true)),
+        1 => "*n".to_string(),
+        2 => format!(";*n{}", steps(d, actions, 2)),
+        3 => format!(";*n?{}", d.pick(&["!1", "!<u1", "f00", "<-a001", "!<-;a00*n1"])),
+        4 | 5 => {
+            let log: String = i.log.iter().map(|&a| format!(";a{:02}", a.min(99))).collect();
+            format!("{log}{}", steps(d, actions, more.min(4)))
+        }
+        6 => format!(";{}?!1", walk(d, 4, i.fluents.min(100), actions, true)),
+        _ => return (rule(d, 2, &i), i),
+    };
+    (damaged(d, text), i)
+}
+
+/// At most so many named steps more, one after the other.
+fn steps(d: &mut Dice, actions: usize, most: usize) -> String {
+    let more: String = (0..d.below(most + 1)).map(|_| format!(";a{}", number(d, actions))).collect();
+    more + d.pick(&["?1", "*?1", "?!f00"])
 }
 
 fn damage_text(d: &mut Dice, text: &mut Vec<u8>) {
@@ -172,20 +208,16 @@ pub fn sheet(d: &mut Dice) -> Vec<u8> {
             break i;
         }
     };
+    let more = if i.actions > 4 { d.below(3) } else { d.below(5) };
+    let (run, i) = run(d, &i, more);
     let hex = |m: &u32| format!("{m:08x}");
     let mut s = format!("sheet=1\nfluents={:02}\nactions={:02}\nstart={}\n", i.fluents, i.actions, hex(&i.start));
     for m in i.masks.chunks(4) {
         s += &format!("act={}\n", m.iter().map(hex).collect::<Vec<_>>().join(","));
     }
     s += &format!("log={}\n", i.log.iter().map(|a| format!("{a:02}")).collect::<String>());
-    let few = i.actions.min(3);
     let mut bytes = s.into_bytes();
-    for (key, kind) in [("ask=", 0), ("run=", 2)] {
-        bytes.extend_from_slice(key.as_bytes());
-        bytes.extend(rule(d, kind, i.fluents, i.actions.max(few)));
-        bytes.push(b'\n');
-    }
-    let more = if i.actions > 4 { d.below(3) } else { d.below(7) };
+    bytes.extend([b"ask=".to_vec(), rule(d, 0, &i), b"\nrun=".to_vec(), run, b"\n".to_vec()].concat());
     bytes.extend_from_slice(format!("more={more}\n").as_bytes());
     for _ in 0..d.pick(&[0, 0, 0, 1, 1, 2]) {
         damage_sheet(d, &mut bytes);

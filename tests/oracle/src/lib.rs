@@ -3,6 +3,7 @@
 
 pub mod ask;
 pub mod finish;
+pub mod next;
 pub mod normal;
 pub mod rule;
 pub mod sheet;

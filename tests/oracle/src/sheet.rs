@@ -1,11 +1,11 @@
 //! Document 01, "The sheet" and "The answering program".
 use crate::ask::World;
 use crate::finish::first;
-use crate::rule::{exactly, Kind, Rule};
+use crate::rule::{exactly, Kind, Rule, Test, Walk};
 use crate::theory::{Masks, Theory};
 
 /// A refusal with its place.
-type Fault = (u8, usize);
+pub type Fault = (u8, usize);
 
 struct Lines<'a> {
     rest: &'a [u8],
@@ -91,15 +91,35 @@ fn theory(lines: &mut Lines) -> Result<Theory, Fault> {
     Ok(Theory { fluents, actions, start, masks })
 }
 
-fn answered(sheet: &[u8]) -> Result<String, Fault> {
+/// What a sheet says; where its rules stand, as places of the sheet.
+pub struct Read {
+    pub theory: Theory,
+    pub log: Vec<u8>,
+    pub ask: (usize, usize),
+    pub run: (usize, usize),
+    pub more: usize,
+    test: Test,
+    job: Walk,
+}
+
+/// Where a stretch of the sheet begins and ends.
+fn stretch(sheet: &[u8], value: &[u8]) -> (usize, usize) {
+    let begin = value.as_ptr() as usize - sheet.as_ptr() as usize;
+    (begin, begin + value.len())
+}
+
+/// Reads a sheet: what it says, or the refusal's number with its line.
+pub fn read(sheet: &[u8]) -> Result<Read, Fault> {
     if sheet.len() > 3263 {
         return Err((1, 0));
     }
     let mut lines = Lines { rest: sheet, line: 0 };
     let theory = theory(&mut lines)?;
     let Some(log) = steps(lines.next("log=")?, theory.actions) else { return lines.fault(5) };
-    let ask = rule(lines.next("ask=")?, Kind::Test, &theory, &lines)?;
-    let run = rule(lines.next("run=")?, Kind::Job, &theory, &lines)?;
+    let ask = lines.next("ask=")?;
+    let test = rule(ask, Kind::Test, &theory, &lines)?;
+    let run = lines.next("run=")?;
+    let job = rule(run, Kind::Job, &theory, &lines)?;
     let more = match lines.next("more=")? {
         [d @ b'0'..=b'6'] => (d - b'0') as usize,
         _ => return lines.fault(3),
@@ -107,11 +127,16 @@ fn answered(sheet: &[u8]) -> Result<String, Fault> {
     if !lines.rest.is_empty() {
         return Err((2, lines.line + 1));
     }
-    let (Rule::Test(ask), Rule::Walk(run)) = (ask, run) else { unreachable!() };
+    let (Rule::Test(test), Rule::Walk(job)) = (test, job) else { unreachable!() };
+    Ok(Read { theory, log, ask: stretch(sheet, ask), run: stretch(sheet, run), more, test, job })
+}
+
+fn answered(sheet: &[u8]) -> Result<String, Fault> {
+    let Read { theory, log, more, test, job, .. } = read(sheet)?;
     let world = World::new(&theory, &log);
-    let verdict = if world.test(&ask, log.len())[log.len()] { "yes" } else { "no" };
+    let verdict = if world.test(&test, log.len())[log.len()] { "yes" } else { "no" };
     let state = world.states[log.len()];
-    let finish = match first(&theory, &log, &run, more) {
+    let finish = match first(&theory, &log, &job, more) {
         Some(w) => w.iter().map(|a| format!("{a:02}")).collect(),
         None => "none".to_string(),
     };

@@ -9,6 +9,9 @@ use Rattle.rule.proofs.Widths.{ends-told}
 use Rattle.finish.specs.declared.search.Found.{Found}
 use Rattle.finish.specs.declared.search.Found.the-variants.{At}
 use Rattle.finish.specs.Found.{FinishTold}
+use Rattle.theory.specs.Subject.{Subject, subjectOf}
+use Rattle.finish.specs.Sound.{Wanted}
+use Rattle.finish.proofs.Checking.{wanted}
 use Rattle.finish.proofs.Seeking.{copied, ready-first, nothing-sought, written-sought}
 use borrow.Author.Needs.{needs}
 use Rattle.finish.proofs.seek.Statement.{statement}
@@ -23,8 +26,17 @@ fill-ends-requires c κs = search needs
 slice-aggregate-copy : tie.Need-slice-aggregate-copy
 slice-aggregate-copy c = search needs
 
+-- what is asked of, and what the checks have left
+abbrev subject : tie.Start → Subject
+subject s = subjectOf (s .args .s) (now (s .args .masks)) (now (s .args .log))
+
+want : (s : tie.Start) → Wanted (s .args .s .counts .actions) (now (s .args .masks)) (now (s .args .log)) (now (s .args .job)) (s .args .more) (length (now (s .args .out)))
+want s = wanted (subject s) (now (s .args .job)) (s .args .more) (length (now (s .args .out))) (s .pre)
+
 copy-requires : tie.Need-copy-requires
-copy-requires c κs = search needs
+copy-requires c κs =
+    let short = want (c .before .before .before .before .before .before .before .before) .logged .short in
+    search needs
 
 slice-aggregate-first : tie.Need-slice-aggregate-first
 slice-aggregate-first c = search needs
@@ -47,8 +59,8 @@ first-requires c κs =
     let a = s .args in
     let copy = p .copy in
     let marked = p .before .before .before .fill-ends in
-    ready-first (a .actions) (now (a .masks)) (now (a .log)) (now (a .job)) (marked .last .1 .0) (copy .last .1 .0) (a .more) (length (now (a .out)))
-    (copy .result) (s .pre) (ends-told _ _ (s .pre .short) (marked .ensures)) (copy .kept .1 .0) (copy .ensures .0) (front p)
+    ready-first (a .s .counts .actions) (now (a .masks)) (now (a .log)) (now (a .job)) (marked .last .1 .0) (copy .last .1 .0) (a .more) (length (now (a .out)))
+    (copy .result) (want s) (ends-told _ _ (want s .short) (marked .ensures)) (copy .kept .1 .0) (copy .ensures .0) (front p)
 
 enum-told : tie.Need-enum-told
 enum-told c = search needs
@@ -61,14 +73,14 @@ abbrev Told : tie.After-first → Found → Type 0
 Told c =
     let p = copying c in
     let a = start p .args in
-    FinishTold (a .actions) (a .start) (now (a .masks)) (now (a .job)) (p .copy .last .1 .0) (p .copy .result) (a .more) (c .first .last .1 .1 .1 .1 .1 .0)
+    FinishTold (a .s) (now (a .masks)) (now (a .job)) (p .copy .last .1 .0) (p .copy .result) (a .more) (c .first .last .1 .1 .1 .1 .0)
 
 found : (c : tie.After-known-told) → Told (c .before .before .before .before) (At (c .before .k .given .0 .0))
 found c = subst (Told (c .before .before .before .before)) (c .before .k .given .1) (c .before .before .before .before .first .ensures)
 
 -- the trail keeps its places
-long : (c : tie.After-first) → length (c .first .last .1 .1 .1 .1 .1 .0) ≡ places
-long c = c .first .kept .1 .1 .1 .1 .1 .0 ∙ copying c .copy .kept .1 .0
+long : (c : tie.After-first) → length (c .first .last .1 .1 .1 .1 .0) ≡ places
+long c = c .first .kept .1 .1 .1 .1 .0 ∙ copying c .copy .kept .1 .0
 
 add-end : tie.Need-add-end
 add-end c = omega (arith, found c .fits .1)
@@ -86,14 +98,14 @@ copy-requires-2 : tie.Need-copy-requires-2
 copy-requires-2 c κs =
     let k = c .before .before .before in
     let s = start (copying (k .before .before .before .before)) in
-    simp (length-take, length-drop) (omega (arith, found k .fits .0, s .pre .enough))
+    simp (length-take, length-drop) (omega (arith, found k .fits .0, want s .enough))
 
 returns : tie.Need-returns
 returns c =
     let f = c .before .before .before in
     let p = copying f in
     let a = start p .args in
-    nothing-sought (a .actions) (a .start) (now (a .masks)) (now (a .log)) (now (a .job)) (p .copy .last .1 .0) (f .first .last .1 .1 .1 .1 .1 .0)
+    nothing-sought (a .s) (now (a .masks)) (now (a .log)) (now (a .job)) (p .copy .last .1 .0) (f .first .last .1 .1 .1 .1 .0)
     (p .copy .result) (a .more) (front p) (now (a .out)) (subst (Told f) (c .enum-told .given .1) (f .first .ensures))
 
 same-length : tie.Need-same-length
@@ -107,9 +119,9 @@ returns-2 c =
     let a = start p .args in
     let n = p .copy .result in
     let k = known .before .k .given .0 .0 in
-    let last = f .first .last .1 .1 .1 .1 .1 .0 in
+    let last = f .first .last .1 .1 .1 .1 .0 in
     let back : n + k - n ≡ k = omega arith in
-    written-sought (a .actions) (a .start) (now (a .masks)) (now (a .log)) (now (a .job)) (p .copy .last .1 .0) last n (a .more) (front p) (now (a .out))
+    written-sought (a .s) (now (a .masks)) (now (a .log)) (now (a .job)) (p .copy .last .1 .0) last n (a .more) (front p) (now (a .out))
     k (take (n + k - n) (drop n last)) (c .before .before .copy2 .last .1 .0) (long f) (rw back) (c .before .before .copy2 .ensures .1) (found known)
 
 pub seek-spec : {M : Type 1} → statement M

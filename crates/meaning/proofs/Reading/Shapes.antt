@@ -7,7 +7,7 @@ use native.Mathlib.Omega.{arith}
 use lib.Dec.{leb}
 use lib.ListN.{length}
 use borrow.Author.Tests.{leb-true, le-leb}
-use Rattle.meaning.specs.Limits.{twoDigits}
+use Rattle.meaning.specs.Limits.{numberLimit}
 use Rattle.meaning.specs.Rule.{Walk, Test, digits}
 
 -- what a reader finds: something, and the rest after it; or nothing that it can read
@@ -111,7 +111,7 @@ pub record Script (A : Type 0) : Type 1 where
   pub short : A → Type 0
 
 abbrev pub numbers : Script ℕ
-numbers = record { spell = digits; short = λ n. n < twoDigits }
+numbers = record { spell = digits; short = λ n. n < numberLimit }
 
 -- a reader that only finds what is spelled there
 abbrev pub Sound : {A : Type 0} → Script A → Reader A → Type 0
@@ -126,7 +126,7 @@ is-digit d p q = and-eq-true-iff _ _ .1 (le-leb 48 d p, le-leb d 57 q)
 
 -- two digits are those of the number that they give
 two-digits : (d e : ℕ) → isDigit d && isDigit e ≡ true
-    → (digits ((d - 48) * 10 + (e - 48)) ≡ d ∷ (e ∷ [])) × ((d - 48) * 10 + (e - 48) < twoDigits)
+    → (digits ((d - 48) * 10 + (e - 48)) ≡ d ∷ (e ∷ [])) × ((d - 48) * 10 + (e - 48) < numberLimit)
 two-digits d e h =
     let (p, q) = and-eq-true-iff (isDigit d) (isDigit e) .0 h in
     let (a, b) = digit-bounds d p in
@@ -142,7 +142,7 @@ number-sound (d ∷ []) n rest e = absurd (got≢bad (sym e))
 number-sound (d ∷ (f ∷ l)) n rest e = go (isDigit d && isDigit f) refl e
   where
     go : (t : Bool) → isDigit d && isDigit f ≡ t → cond t (got ((d - 48) * 10 + (f - 48)) l) bad ≡ got n rest
-        → (d ∷ (f ∷ l) ≡ digits n ++ rest) × (n < twoDigits)
+        → (d ∷ (f ∷ l) ≡ digits n ++ rest) × (n < numberLimit)
     go true h q =
         let m : (d - 48) * 10 + (f - 48) ≡ n = cc in
         let s : l ≡ rest = cc in
@@ -150,7 +150,7 @@ number-sound (d ∷ (f ∷ l)) n rest e = go (isDigit d && isDigit f) refl e
         (ap (λ (x : List ℕ). x ++ l) (sym p) ∙ ap₂ (λ (k : ℕ) (x : List ℕ). digits k ++ x) m s, omega arith)
     go false h q = absurd (got≢bad (sym q))
 
-pub number-complete : (n : ℕ) (rest : List ℕ) → n < twoDigits → readNumber (digits n ++ rest) ≡ got n rest
+pub number-complete : (n : ℕ) (rest : List ℕ) → n < numberLimit → readNumber (digits n ++ rest) ≡ got n rest
 unfolding readNumber
 number-complete n rest h =
     let t = is-digit (48 + n / 10) (omega arith) (omega arith) in
@@ -163,7 +163,7 @@ module _ {A : Type 0} (x : Script A) (ws : Script Walk) (ts : Script Test) where
   -- after these bytes, the parts of this shape make something whose text is the bytes and the parts' texts
   abbrev pub Tells : List ℕ → Shape A → Type 0
   Tells bytes (whole a) = (bytes ≡ x .spell a) × x .short a
-  Tells bytes (number k) = (n : ℕ) → n < twoDigits → Tells (bytes ++ digits n) (k n)
+  Tells bytes (number k) = (n : ℕ) → n < numberLimit → Tells (bytes ++ digits n) (k n)
   Tells bytes (walk k) = (w : Walk) → ws .short w → Tells (bytes ++ ws .spell w) (k w)
   Tells bytes (test k) = (t : Test) → ts .short t → Tells (bytes ++ ts .spell t) (k t)
   Tells bytes none = Unit {0}

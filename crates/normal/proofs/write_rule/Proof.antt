@@ -1,6 +1,5 @@
--- `normal::write_rule` meets its contract: a rule of each kind is a test or a walk. Assumes nothing.
+-- `write_rule` meets its contract: a rule of each kind is a test or a walk.
 use mathlib.Core.Path.{ap}
-use native.Mathlib.Omega.{arith}
 use borrow.Author.Needs.{needs}
 use Rattle.rule.specs.Outcome.{kindOf}
 use Rattle.normal.proofs.Whole as whole
@@ -11,19 +10,19 @@ enum-told : tie.Need-enum-told
 enum-told c = search needs
 
 test-requires : tie.Need-test-requires
-test-requires c κs = whole.test-whole (whole.only-tests (ap kindOf (c .before .enum-told .given .1))) (c .before .before .before .before .before .pre) (omega arith)
+test-requires c κs = whole.test-whole (whole.only-tests (ap kindOf (c .before .enum-told .given .1))) (c .before .before .before .before .before .pre)
 
 enum-told-2 : tie.Need-enum-told-2
 enum-told-2 c = search needs
 
 walk-requires : tie.Need-walk-requires
-walk-requires c κs = whole.walk-whole (whole.only-walks (ap kindOf (c .before .enum-told2 .given .1))) (c .before .before .before .before .before .pre) (omega arith)
+walk-requires c κs = whole.walk-whole (whole.only-walks (ap kindOf (c .before .enum-told2 .given .1))) (c .before .before .before .before .before .pre)
 
 enum-told-3 : tie.Need-enum-told-3
 enum-told-3 c = search needs
 
 walk-requires-2 : tie.Need-walk-requires-2
-walk-requires-2 c κs = whole.walk-whole (whole.only-jobs (ap kindOf (c .before .enum-told3 .given .1))) (c .before .before .before .before .before .pre) (omega arith)
+walk-requires-2 c κs = whole.walk-whole (whole.only-jobs (ap kindOf (c .before .enum-told3 .given .1))) (c .before .before .before .before .before .pre)
 
 same-length : tie.Need-same-length
 same-length c = search needs

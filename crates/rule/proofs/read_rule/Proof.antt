@@ -1,13 +1,30 @@
--- `read_rule` meets its contract: the part from the rule's end on is the rest.
-use mathlib.Core.Path.{refl, subst, subst⁻¹}
-use mathlib.Core.Logic.{inr}
+-- `read_rule` meets its contract: the part from the rule's end on is the rest; refused, the part is empty.
+use mathlib.Core.Path.{subst, subst⁻¹}
+use mathlib.Core.Logic.{inl}
 use mathlib.Core.Bool.{false}
-use Rattle.meaning.specs.Refusal.{Refused}
-use Rattle.rule.specs.Outcome.{kindOf, CheckedAs, ruleRows}
-use Rattle.rule.proofs.Outcomes.{ends-inside, handed-back}
 use borrow.Author.Needs.{needs}
+use denote.Ref.{now}
+use Rattle.meaning.specs.Refusal.{Refused}
+use Rattle.rule.specs.Outcome.{kindOf, ruleRows}
+use Rattle.rule.specs.Judged.{SurveyedAs, Fitting}
+use Rattle.rule.specs.declared.answer.Facts.{Facts}
+use Rattle.rule.proofs.Outcomes.{ends-inside, handed-back}
 use Rattle.rule.proofs.read_rule.Statement.{statement}
 use Rattle.rule.proofs.read_rule.Tie as tie
+
+-- the place where the rule is found to fit, its facts, and what is known of them
+abbrev start : tie.After-known-told2 → tie.Start
+start p =
+    let surveyed = p .before .before .before in
+    surveyed .before .before
+
+abbrev facts : tie.After-known-told2 → Facts
+facts p = p .before .facts .given .0 .0
+
+fits : (p : tie.After-known-told2) → Fitting false (kindOf (start p .args .kind)) (now (start p .args .text)) (start p .args .counts) (facts p)
+fits p =
+    let e = start p .args in
+    subst (SurveyedAs false (kindOf (e .kind)) (now (e .text)) (e .counts)) (p .before .facts .given .1) (p .before .before .before .survey .ensures)
 
 survey-requires : tie.Need-survey-requires
 survey-requires c κs = search needs
@@ -18,52 +35,33 @@ enum-known-why c = search needs
 number-requires : tie.Need-number-requires
 number-requires c κs = search needs
 
-slice-aggregate-result : tie.Need-slice-aggregate-result
-slice-aggregate-result c = search needs
+nothing-requires : tie.Need-nothing-requires
+nothing-requires c κs = search needs
 
 enum-known-facts : tie.Need-enum-known-facts
 enum-known-facts c = search needs
 
-cast-end : tie.Need-cast-end
-cast-end c = search needs
-
-sub-result : tie.Need-sub-result
-sub-result c =
-    let e = c .before .before .before .before .before .before in
-    let kind = kindOf (e .args .kind) in
-    let text = e .args .text .now in
-    let f = c .before .before .facts .given .0 .0 in
-    let fit = subst (CheckedAs false kind text (e .args .fluents) (e .args .actions)) (c .before .before .facts .given .1) (c .before .before .before .before .survey .ensures) in
-    ends-inside kind text (e .args .fluents) (e .args .actions) f fit
-
-part-result-start : tie.Need-part-result-start
-part-result-start c =
-    let e = c .before .before .before .before .before .before in
-    let kind = kindOf (e .args .kind) in
-    let text = e .args .text .now in
-    let f = c .before .before .facts .given .0 .0 in
-    let fit = subst (CheckedAs false kind text (e .args .fluents) (e .args .actions)) (c .before .before .facts .given .1) (c .before .before .before .before .survey .ensures) in
-    ends-inside kind text (e .args .fluents) (e .args .actions) f fit
-
-part-result-end : tie.Need-part-result-end
-part-result-end c = search needs
+unread-requires : tie.Need-unread-requires
+unread-requires c κs =
+    let e = start c .args in
+    ends-inside (kindOf (e .kind)) (e .text) (e .counts) (facts c) (fits c)
 
 returns : tie.Need-returns
 returns c =
-    let e = c .before .before .before .before .before .before .before in
-    let kind = kindOf (e .args .kind) in
-    let text = e .args .text .now in
-    let refused = subst (CheckedAs false kind text (e .args .fluents) (e .args .actions)) (c .before .before .before .why .given .1) (c .before .before .before .before .before .survey .ensures) in
-    inr (record { refused = subst⁻¹ (Refused (ruleRows false kind text (e .args .fluents) (e .args .actions))) (c .before .number .ensures) refused; empty = refl })
+    let surveyed = c .before .before .before .before .before in
+    let e = surveyed .before .before .args in
+    let kind = kindOf (e .kind) in
+    let refused = subst (SurveyedAs false kind (now (e .text)) (e .counts)) (c .before .before .before .why .given .1) (surveyed .survey .ensures) in
+    inl (record {
+      refused = subst⁻¹ (Refused (ruleRows false kind (now (e .text)) (e .counts))) (c .before .number .ensures) refused;
+      blank = c .nothing .ensures;
+    })
 
 returns-2 : tie.Need-returns-2
 returns-2 c =
-    let e = c .before .before .before .before .before .before .before in
-    let kind = kindOf (e .args .kind) in
-    let text = e .args .text .now in
-    let f = c .before .before .before .facts .given .0 .0 in
-    let fit = subst (CheckedAs false kind text (e .args .fluents) (e .args .actions)) (c .before .before .before .facts .given .1) (c .before .before .before .before .before .survey .ensures) in
-    handed-back kind text (e .args .fluents) (e .args .actions) f fit
+    let p = c .before in
+    let e = start p .args in
+    handed-back (kindOf (e .kind)) (e .text) (e .counts) (facts p) (fits p) (c .unread .ensures)
 
 pub read-rule-spec : {M : Type 1} → statement M
 read-rule-spec =
@@ -72,11 +70,8 @@ read-rule-spec =
     survey-requires
     enum-known-why
     number-requires
-    slice-aggregate-result
+    nothing-requires
     enum-known-facts
-    cast-end
-    sub-result
-    part-result-start
-    part-result-end
+    unread-requires
     returns
     returns-2)

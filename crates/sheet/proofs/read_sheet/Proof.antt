@@ -14,10 +14,10 @@ read-lines-requires : tie.Need-read-lines-requires
 read-lines-requires c κs = search needs
 
 enum-known-f : tie.Need-enum-known-f
-enum-known-f c = search needs
+enum-known-f c = c .match .keys1
 
 enum-known-p : tie.Need-enum-known-p
-enum-known-p c = search needs
+enum-known-p c = c .match .keys2
 
 -- what reading the lines found
 abbrev entry : tie.After-read-lines → tie.Start

@@ -1,15 +1,16 @@
 -- `theory::state` meets its contract: the world's number stands, then the position decides, and past both the state is read off the log.
 use mathlib.Core.Path.{refl, subst}
 use mathlib.Core.Logic.{inl, inr}
-use mathlib.Core.List.{List, [], _∷_}
+use mathlib.Core.List.{List}
 use Prim.Native.Nat.{_<_}
 use native.Mathlib.Omega.{arith}
 use borrow.Author.Needs.{needs}
 use denote.Ref.{now}
 use lib.ListN.{length}
-use Rattle.meaning.specs.Refusal.{Row, _when_, Accepted}
+use Rattle.meaning.specs.Refusal.{Row, Accepted}
 use Rattle.meaning.proofs.Refusal.{here, passes, accepts, refused-first, refused-second, accepted-both}
-use Rattle.theory.specs.Rows.{worldRows}
+use Rattle.theory.specs.Subject.{Subject, subjectOf}
+use Rattle.theory.specs.Rows.{worldRows, positionRows}
 use Rattle.theory.specs.Check.{Settled}
 use Rattle.theory.proofs.Reading.{checked, readable}
 use Rattle.theory.proofs.state.Statement.{statement}
@@ -24,12 +25,15 @@ enum-known-r c = search needs
 enum-told : tie.Need-enum-told
 enum-told c = search needs
 
--- the rows of the world and of the position, at the arguments
+-- what is asked of, and the rows of the world and of the position, at the arguments
+abbrev subject : tie.Start → Subject
+subject c = subjectOf (c .args .s) (now (c .args .masks)) (now (c .args .log))
+
 abbrev first : tie.Start → List {1} Row
-first c = worldRows (c .args .fluents) (c .args .actions) (c .args .start) (now (c .args .masks)) (now (c .args .log))
+first c = worldRows (subject c)
 
 abbrev second : tie.Start → List {1} Row
-second c = (10 when (length (now (c .args .log)) < c .args .position)) ∷ []
+second c = positionRows (subject c) (c .args .position)
 
 -- the world is sound, in that arm
 sound : (c : tie.After-enum-told) → Accepted (first (c .before .before .before .before .before))
@@ -39,26 +43,27 @@ returns : tie.Need-returns
 returns c =
     let start = c .before .before .before .before .before .before in
     let late : length (now (start .args .log)) < start .args .position = omega arith in
-    inl (refused-second (first start) (second start) (sound (c .before)) (here tt late), refl)
+    inl (record { refused = refused-second (first start) (second start) (sound (c .before)) (here late); blank = refl })
 
 state-at-requires : tie.Need-state-at-requires
-state-at-requires c κs = (c .if1 .left, readable (checked _ _ _ _ _ (sound (c .before))))
+state-at-requires c κs = (c .if1 .left, readable (checked (subject (c .before .before .before .before .before .before)) (sound (c .before))))
 
 returns-2 : tie.Need-returns-2
 returns-2 c =
     let start = c .before .before .before .before .before .before in
     let told = subst (Settled (first start)) (c .before .r .given .1) (c .before .before .before .check-world .ensures) in
-    inl (refused-first (first start) (second start) 5 tt tt told, refl)
+    inl (record { refused = refused-first (first start) (second start) told; blank = refl })
 
 returns-3 : tie.Need-returns-3
 returns-3 c =
     let start = c .before .before .before .before .before .before .before in
     let within : length (now (start .args .log)) < start .args .position → ⊥ = λ h. omega arith in
-    inr (
-      refl,
-      accepted-both (first start) (second start) (sound (c .before .before)) (passes within accepts),
-      c .state-at .ensures (start .args .fluents) (start .args .actions),
-    )
+    inr
+    (record {
+      none = refl;
+      accepted = accepted-both (first start) (second start) (sound (c .before .before)) (passes within accepts);
+      right = c .state-at .ensures;
+    })
 
 pub state-spec : {M : Type 1} → statement M
 state-spec =

@@ -5,6 +5,7 @@ use Prim.Native.Nat.{ℕ}
 use denote.Ref.{now}
 use Rattle.finish.specs.Answer.{numberGiven, countGiven, FinishAnswered}
 use Rattle.finish.specs.declared.FinishAnswer.{FinishAnswer}
+use Rattle.wyndhopper.specs.Exported.{asked}
 use borrow.Author.Needs.{needs}
 use Rattle.wyndhopper.proofs.wyh_finish.Statement.{statement}
 use Rattle.wyndhopper.proofs.wyh_finish.Tie as tie
@@ -25,20 +26,19 @@ same-length : tie.Need-same-length
 same-length c = search needs
 
 -- what the contract says of the output, a number and a count, at the arguments, and what the call ensures of its answer
-abbrev Told : tie.Start → List ℕ → ℕ → ℕ → Type 0
-Told c =
-    FinishAnswered (c .args .fluents) (c .args .actions) (c .args .start) (now (c .args .masks)) (now (c .args .log)) (now (c .args .job)) (c .args .more) (now (c .args .out))
+abbrev Told : tie.Start → ℕ → ℕ → List ℕ → Type 0
+Told c = FinishAnswered (asked (c .args .fluents) (c .args .actions) (c .args .start) (now (c .args .masks)) (now (c .args .log))) (now (c .args .job)) (c .args .more) (now (c .args .out))
 
 abbrev Answers : tie.Start → List ℕ → FinishAnswer → Type 0
-Answers c after a = Told c after (numberGiven a) (countGiven a)
+Answers c after a = Told c (numberGiven a) (countGiven a) after
 
 returns : tie.Need-returns
 returns c =
     let start = c .before .before .before .before .before .before .before .before .before .before .before .before in
     let call = c .before .before .before .before .before .before .finish in
-    let after = call .last .1 .1 .1 .1 .1 .1 .1 .0 in
+    let after = call .last .1 .1 .1 .1 .1 .0 in
     let told = subst (Answers start after) (c .before .before .why .given .1) (call .ensures) in
-    subst⁻¹ (λ (n : ℕ). Told start after n 0) (c .number .ensures) told
+    subst⁻¹ (λ (n : ℕ). Told start n 0 after) (c .number .ensures) told
 
 same-length-2 : tie.Need-same-length-2
 same-length-2 c = search needs
@@ -46,7 +46,7 @@ same-length-2 c = search needs
 returns-2 : tie.Need-returns-2
 returns-2 c =
     let call = c .before .before .before .before .before .finish in
-    subst (Answers (c .before .before .before .before .before .before .before .before .before .before .before) (call .last .1 .1 .1 .1 .1 .1 .1 .0)) (c .before .n .given .1) (call .ensures)
+    subst (Answers (c .before .before .before .before .before .before .before .before .before .before .before) (call .last .1 .1 .1 .1 .1 .0)) (c .before .n .given .1) (call .ensures)
 
 pub wyh-finish-spec : {M : Type 1} → statement M
 wyh-finish-spec =

@@ -3,9 +3,9 @@ use mathlib.Core.Path.{subst, subst⁻¹}
 use Prim.Native.Nat.{ℕ}
 use native.Mathlib.Omega.{arith}
 use denote.Ref.{now}
-use Rattle.ask.specs.Answer.{reachNumber, setGiven, countGiven, earliestGiven}
+use Rattle.ask.specs.Reach.{numberGiven, setGiven, countGiven, earliestGiven, ReachAnswered}
 use Rattle.ask.specs.declared.ReachAnswer.{ReachAnswer}
-use Rattle.wyndhopper.specs.Exported.{ReachExported}
+use Rattle.wyndhopper.specs.Exported.{asked}
 use Rattle.wyndhopper.proofs.Slots.{reach-small}
 use borrow.Author.Needs.{needs}
 use Rattle.wyndhopper.proofs.wyh_reach.Statement.{statement}
@@ -25,11 +25,10 @@ enum-known-found c = search needs
 
 -- what the contract says of a number and the slots, at the arguments, and what the call ensures of its answer
 abbrev Told : tie.Start → ℕ → ℕ → ℕ → ℕ → Type 0
-Told c =
-    ReachExported (c .args .fluents) (c .args .actions) (c .args .start) (now (c .args .masks)) (now (c .args .log)) (now (c .args .walk)) (c .args .then) (c .args .now)
+Told c = ReachAnswered (asked (c .args .fluents) (c .args .actions) (c .args .start) (now (c .args .masks)) (now (c .args .log))) (now (c .args .walk)) (c .args .then) (c .args .now)
 
 abbrev Answers : tie.Start → ReachAnswer → Type 0
-Answers c a = Told c (reachNumber a) (setGiven a) (countGiven a) (earliestGiven a)
+Answers c a = Told c (numberGiven a) (setGiven a) (countGiven a) (earliestGiven a)
 
 -- the accepted answer's parts, in that arm
 found : (c : tie.After-known-told2)

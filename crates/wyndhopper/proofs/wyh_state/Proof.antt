@@ -4,6 +4,7 @@ use Prim.Native.Nat.{ℕ}
 use denote.Ref.{now}
 use Rattle.theory.specs.Answer.{numberGiven, stateGiven, StateAnswered}
 use Rattle.theory.specs.declared.StateAnswer.{StateAnswer}
+use Rattle.wyndhopper.specs.Exported.{asked}
 use borrow.Author.Needs.{needs}
 use Rattle.wyndhopper.proofs.wyh_state.Statement.{statement}
 use Rattle.wyndhopper.proofs.wyh_state.Tie as tie
@@ -22,7 +23,7 @@ enum-known-s c = search needs
 
 -- what the contract says of a number and a state, at the arguments, and what the call ensures of its answer
 abbrev Told : tie.Start → ℕ → ℕ → Type 0
-Told c = StateAnswered (c .args .fluents) (c .args .actions) (c .args .start) (now (c .args .masks)) (now (c .args .log)) (c .args .position)
+Told c = StateAnswered (asked (c .args .fluents) (c .args .actions) (c .args .start) (now (c .args .masks)) (now (c .args .log))) (c .args .position)
 
 abbrev Answers : tie.Start → StateAnswer → Type 0
 Answers c a = Told c (numberGiven a) (stateGiven a)

@@ -1,12 +1,12 @@
 -- `wyh_verdict` meets its contract: what `ask::verdict` answers, as a number and a slot.
 use mathlib.Core.Path.{refl, subst, subst⁻¹}
-use mathlib.Core.Logic.{_⊎_}
 use mathlib.Core.Bool.{Bool, true, false}
 use mathlib.Core.Option.{Option, none, some}
 use Prim.Native.Nat.{ℕ}
 use denote.Ref.{now}
-use Rattle.ask.specs.Answer.{verdictNumber, verdictGiven, VerdictRefused, VerdictFound}
+use Rattle.ask.specs.Verdict.{numberGiven, verdictGiven, VerdictAnswered}
 use Rattle.ask.specs.declared.VerdictAnswer.{VerdictAnswer}
+use Rattle.wyndhopper.specs.Exported.{asked}
 use borrow.Author.Needs.{needs}
 use Rattle.wyndhopper.proofs.wyh_verdict.Statement.{statement}
 use Rattle.wyndhopper.proofs.wyh_verdict.Tie as tie
@@ -28,27 +28,24 @@ enum-told-2 c = search needs
 
 -- what the contract says of a number and a verdict, at the arguments, and what the call ensures of its answer
 abbrev Told : tie.Start → ℕ → Option Bool → Type 0
-Told c n v =
-    let a = c .args in
-    VerdictRefused n v (a .fluents) (a .actions) (a .start) (now (a .masks)) (now (a .log)) (now (a .test)) (a .then) (a .now)
-    ⊎ VerdictFound n v (a .fluents) (a .actions) (a .start) (now (a .masks)) (now (a .log)) (now (a .test)) (a .then) (a .now)
+Told c = VerdictAnswered (asked (c .args .fluents) (c .args .actions) (c .args .start) (now (c .args .masks)) (now (c .args .log))) (now (c .args .test)) (c .args .then) (c .args .now)
 
 abbrev Answers : tie.Start → VerdictAnswer → Type 0
-Answers c a = Told c (verdictNumber a) (verdictGiven a)
+Answers c a = Told c (numberGiven a) (verdictGiven a)
 
 returns : tie.Need-returns
 returns c =
     let start = c .before .before .before .before .before .before .before .before in
     let told = subst (Answers start) (c .before .before .why .given .1) (c .before .before .before .before .verdict .ensures) in
-    record { verdict = none; slot = refl; told = subst⁻¹ (λ (n : ℕ). Told start n none) (c .number .ensures) told }
+    record { verdict = none; written = refl; said = subst⁻¹ (λ (n : ℕ). Told start n none) (c .number .ensures) told }
 
 returns-2 : tie.Need-returns-2
 returns-2 c =
-    record { verdict = some true; slot = refl; told = subst (Answers (c .before .before .before .before .before .before)) (c .enum-told .given .1) (c .before .before .verdict .ensures) }
+    record { verdict = some true; written = refl; said = subst (Answers (c .before .before .before .before .before .before)) (c .enum-told .given .1) (c .before .before .verdict .ensures) }
 
 returns-3 : tie.Need-returns-3
 returns-3 c =
-    record { verdict = some false; slot = refl; told = subst (Answers (c .before .before .before .before .before .before)) (c .enum-told2 .given .1) (c .before .before .verdict .ensures) }
+    record { verdict = some false; written = refl; said = subst (Answers (c .before .before .before .before .before .before)) (c .enum-told2 .given .1) (c .before .before .verdict .ensures) }
 
 pub wyh-verdict-spec : {M : Type 1} → statement M
 wyh-verdict-spec =

@@ -1,7 +1,7 @@
 -- `answer::lines::finish` meets its contract: its three texts, one behind the other.
 use native.Mathlib.Omega.{arith}
-use Rattle.sheet.proofs.LogText.{log-long}
-use Rattle.answer.proofs.Writing.{wrote-then, wrote-length}
+use Rattle.spelling.proofs.LogText.{log-long}
+use Rattle.spelling.proofs.Writing.{wrote-then, wrote-length}
 use borrow.Author.Needs.{needs}
 use Rattle.answer.proofs.lines.finish.Statement.{statement}
 use Rattle.answer.proofs.lines.finish.Tie as tie

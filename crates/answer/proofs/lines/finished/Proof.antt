@@ -1,7 +1,7 @@
 -- `answer::lines::finished` meets its contract: its three lines, one behind the other.
 use native.Mathlib.Omega.{arith}
 use Rattle.answer.specs.Text.{answerText}
-use Rattle.answer.proofs.Writing.{wrote-then, wrote-length}
+use Rattle.spelling.proofs.Writing.{wrote-then, wrote-length}
 use Rattle.answer.proofs.Lengths.{verdict-length, state-length}
 use borrow.Author.Needs.{needs}
 use Rattle.answer.proofs.lines.finished.Statement.{statement}

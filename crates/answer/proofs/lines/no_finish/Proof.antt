@@ -1,5 +1,5 @@
 -- `answer::lines::no_finish` meets its contract: its three texts, one behind the other.
-use Rattle.answer.proofs.Writing.{wrote-then}
+use Rattle.spelling.proofs.Writing.{wrote-then}
 use borrow.Author.Needs.{needs}
 use Rattle.answer.proofs.lines.no_finish.Statement.{statement}
 use Rattle.answer.proofs.lines.no_finish.Tie as tie

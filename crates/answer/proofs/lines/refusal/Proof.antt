@@ -1,8 +1,8 @@
 -- `answer::lines::refusal` meets its contract: its five texts, one behind the other.
 use native.Mathlib.Omega.{arith}
 use Rattle.answer.specs.Text.{refusalText}
-use Rattle.answer.proofs.Writing.{wrote-then, wrote-length}
-use Rattle.answer.proofs.Digits.{length-decimal}
+use Rattle.spelling.proofs.Writing.{wrote-then, wrote-length}
+use Rattle.spelling.proofs.Plain.{length-decimal}
 use borrow.Author.Needs.{needs}
 use Rattle.answer.proofs.lines.refusal.Statement.{statement}
 use Rattle.answer.proofs.lines.refusal.Tie as tie

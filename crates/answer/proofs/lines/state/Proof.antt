@@ -1,7 +1,7 @@
 -- `answer::lines::state` meets its contract: its three texts, one behind the other.
 use native.Mathlib.Omega.{arith}
-use Rattle.sheet.proofs.Numeral.{length-numeral}
-use Rattle.answer.proofs.Writing.{wrote-then, wrote-length}
+use Rattle.spelling.proofs.Numeral.{length-numeral}
+use Rattle.spelling.proofs.Writing.{wrote-then, wrote-length}
 use borrow.Author.Needs.{needs}
 use Rattle.answer.proofs.lines.state.Statement.{statement}
 use Rattle.answer.proofs.lines.state.Tie as tie

@@ -1,7 +1,7 @@
 -- `answer::lines::verdict` meets its contract: its three texts, one behind the other.
 use mathlib.Core.Path.{ap, sym}
 use Rattle.answer.specs.Text.{line, yesNo}
-use Rattle.answer.proofs.Writing.{wrote-then, wrote-as}
+use Rattle.spelling.proofs.Writing.{wrote-then, wrote-as}
 use borrow.Author.Needs.{needs}
 use Rattle.answer.proofs.lines.verdict.Statement.{statement}
 use Rattle.answer.proofs.lines.verdict.Tie as tie

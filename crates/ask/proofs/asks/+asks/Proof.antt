@@ -22,14 +22,14 @@ use Rattle.ask.proofs.asks.waits.Reads as waits-reads
 use Rattle.ask.proofs.asks.+asks.{statement}
 use Rattle.ask.proofs.asks.+asks.Tie.{close}
 
-abbrev μ : Measures 4 kinds.ps ℕ
+abbrev μ : Measures 3 kinds.ps ℕ
 μ κs a = length (a .0 .now) - a .1 .1 .0
 
-abbrev given : ℕ → In 4 kinds.ps
-given t = and 4 kinds.ps (is 4 kinds.ps μ t) reads.Pre
+abbrev given : ℕ → In 3 kinds.ps
+given t = and 3 kinds.ps (is 3 kinds.ps μ t) reads.Pre
 
-abbrev below : ℕ → In 4 kinds.ps
-below t = and 4 kinds.ps (falls 4 kinds.ps _<_ μ t) reads.Pre
+abbrev below : ℕ → In 3 kinds.ps
+below t = and 3 kinds.ps (falls 3 kinds.ps _<_ μ t) reads.Pre
 
 abbrev calls : ℕ → lts.Claims
 calls t = (
@@ -106,17 +106,18 @@ asks-requires-5 t c κs =
 
 returns : (t : ℕ) → lts.Need-returns (calls t) (given t) reads.Post
 returns t c =
-    act-found (c .before .one .result) (c .before .before .before .match .keys1)
-    (λ i digits a h. c .before .one .ensures a h ∙ ap (eqb a) (c .before .before .named .ensures i digits)) (c .waits .ensures)
+    let looked = c .before .before in
+    act-found (c .before .one .result) (looked .before .match .keys1)
+    (λ n stands a h. c .before .one .ensures a h ∙ ap (eqb a) (looked .named .ensures n stands)) (c .waits .ensures)
 
 returns-2 : (t : ℕ) → lts.Need-returns-2 (calls t) (given t) reads.Post
 returns-2 t c = next-found (c .before .match .keys2) (c .waits2 .ensures)
 
 returns-3 : (t : ℕ) → lts.Need-returns-3 (calls t) (given t) reads.Post
 returns-3 t c =
-    let s = c .before .before .before .before .before .before .before .before in
-    seq-found (s .pre .1 .marked) (c .before .before .before .second .ensures) (c .before .before .before .before .before .match .keys3)
-    (c .before .asks .ensures) (c .before .before .walk .ensures) (c .asks2 .ensures)
+    let behind = c .before .before .before in
+    let sign = behind .before .before in
+    seq-found (sign .before .before .before .pre .1 .marked) (behind .second .ensures) (sign .match .keys3) (c .before .asks .ensures) (c .before .before .walk .ensures) (c .asks2 .ensures)
 
 returns-4 : (t : ℕ) → lts.Need-returns-4 (calls t) (given t) reads.Post
 returns-4 t c =

@@ -1,11 +1,11 @@
 -- `ask::asks::one` meets its contract: `1 << a`, and nothing past the last action.
 use mathlib.Core.Path.{sym, _∙_}
 use native.Mathlib.Omega.{arith}
+use borrow.Author.Needs.{needs}
 use borrow.Author.Tests.{ne-eqb}
 use Rattle.laws.proofs.On.{on-none}
 use Rattle.laws.proofs.Shift.{on-one-shl}
 use Rattle.meaning.specs.Limits.{actionLimit}
-use borrow.Author.Needs.{needs}
 use Rattle.ask.proofs.asks.one.Statement.{statement}
 use Rattle.ask.proofs.asks.one.Tie as tie
 

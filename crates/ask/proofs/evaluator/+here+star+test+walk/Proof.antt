@@ -3,8 +3,9 @@
 -- have one more.
 use Prim.Native.Nat.{ℕ, _+_, _-_, _*_, _<_}
 use native.Mathlib.Omega.{arith}
+use mathlib.Core.Path.{_≡_, refl}
+use mathlib.Core.Logic.{_↔_}
 use mathlib.Core.Bool.{true}
-use mathlib.Core.Path.{refl}
 use lib.ListN.{length}
 use borrow.Author.Needs.{needs}
 use borrow.Author.Tests.{not-true, not-false}
@@ -38,7 +39,7 @@ use Rattle.ask.proofs.evaluator.+here+star+test+walk.Tie.{close}
 use Rattle.laws.proofs.Truth.{off-on}
 use Rattle.meaning.specs.Limits.{places}
 use Rattle.meaning.specs.Reach.{countOf}
-use Rattle.positions.specs.Positions.{holds, wordOf, Empty, Inside}
+use Rattle.positions.specs.Positions.{holds}
 use Rattle.positions.proofs.Held.{held-place, nothing-held}
 use Rattle.rule.proofs.Spread.{within}
 use Rattle.ask.proofs.Calls.{left-over, seq-first, seq-second, alt-first, alt-second, star-part, check-part, conv-part, leaf-part, fluent-number, neg-part, both-first, both-second, diamond-first, diamond-second, last-sign}
@@ -46,42 +47,42 @@ use Rattle.ask.proofs.Leaf.{fluent-found}
 use Rattle.ask.proofs.Found.{seq-found, seq-back-found, alt-found, star-found, check-found, conv-found, leaf-found, always-found, neg-found, both-found, diamond-found, stars-found, Holding, holding-start, holding-more, holding-done, Sifting, sifting-start, sifting-more, sifting-done}
 use Rattle.ask.proofs.Loops.{round-falls, earliest-there, one-there, left-falls}
 
-abbrev μ-here : Measures 4 here-kinds.ps ℕ
+abbrev μ-here : Measures 3 here-kinds.ps ℕ
 μ-here κs a = 2 * (length (a .0 .now) - a .1 .1 .0) + 1
 
-abbrev μ-star : Measures 4 star-kinds.ps ℕ
+abbrev μ-star : Measures 3 star-kinds.ps ℕ
 μ-star κs a = 2 * (length (a .0 .now) - a .1 .1 .0) + 1
 
-abbrev μ-test : Measures 4 test-kinds.ps ℕ
+abbrev μ-test : Measures 3 test-kinds.ps ℕ
 μ-test κs a = 2 * (length (a .0 .now) - a .1 .1 .0)
 
-abbrev μ-walk : Measures 4 walk-kinds.ps ℕ
+abbrev μ-walk : Measures 3 walk-kinds.ps ℕ
 μ-walk κs a = 2 * (length (a .0 .now) - a .1 .1 .0)
 
 -- what each member is given at the measure t, and what a call of it asks below t
-abbrev here-at : ℕ → In 4 here-kinds.ps
-here-at t = and 4 here-kinds.ps (is 4 here-kinds.ps μ-here t) here.Pre
+abbrev here-at : ℕ → In 3 here-kinds.ps
+here-at t = and 3 here-kinds.ps (is 3 here-kinds.ps μ-here t) here.Pre
 
-abbrev here-below : ℕ → In 4 here-kinds.ps
-here-below t = and 4 here-kinds.ps (falls 4 here-kinds.ps _<_ μ-here t) here.Pre
+abbrev here-below : ℕ → In 3 here-kinds.ps
+here-below t = and 3 here-kinds.ps (falls 3 here-kinds.ps _<_ μ-here t) here.Pre
 
-abbrev star-at : ℕ → In 4 star-kinds.ps
-star-at t = and 4 star-kinds.ps (is 4 star-kinds.ps μ-star t) star.Pre
+abbrev star-at : ℕ → In 3 star-kinds.ps
+star-at t = and 3 star-kinds.ps (is 3 star-kinds.ps μ-star t) star.Pre
 
-abbrev star-below : ℕ → In 4 star-kinds.ps
-star-below t = and 4 star-kinds.ps (falls 4 star-kinds.ps _<_ μ-star t) star.Pre
+abbrev star-below : ℕ → In 3 star-kinds.ps
+star-below t = and 3 star-kinds.ps (falls 3 star-kinds.ps _<_ μ-star t) star.Pre
 
-abbrev test-at : ℕ → In 4 test-kinds.ps
-test-at t = and 4 test-kinds.ps (is 4 test-kinds.ps μ-test t) test.Pre
+abbrev test-at : ℕ → In 3 test-kinds.ps
+test-at t = and 3 test-kinds.ps (is 3 test-kinds.ps μ-test t) test.Pre
 
-abbrev test-below : ℕ → In 4 test-kinds.ps
-test-below t = and 4 test-kinds.ps (falls 4 test-kinds.ps _<_ μ-test t) test.Pre
+abbrev test-below : ℕ → In 3 test-kinds.ps
+test-below t = and 3 test-kinds.ps (falls 3 test-kinds.ps _<_ μ-test t) test.Pre
 
-abbrev walk-at : ℕ → In 4 walk-kinds.ps
-walk-at t = and 4 walk-kinds.ps (is 4 walk-kinds.ps μ-walk t) walk.Pre
+abbrev walk-at : ℕ → In 3 walk-kinds.ps
+walk-at t = and 3 walk-kinds.ps (is 3 walk-kinds.ps μ-walk t) walk.Pre
 
-abbrev walk-below : ℕ → In 4 walk-kinds.ps
-walk-below t = and 4 walk-kinds.ps (falls 4 walk-kinds.ps _<_ μ-walk t) walk.Pre
+abbrev walk-below : ℕ → In 3 walk-kinds.ps
+walk-below t = and 3 walk-kinds.ps (falls 3 walk-kinds.ps _<_ μ-walk t) walk.Pre
 
 -- ---- here
 -- what each call asks and tells
@@ -90,10 +91,10 @@ here-calls t = (is-empty-reads.Asked, is-empty-reads.Learnt, earliest-reads.Aske
 
 -- it has kept the positions gone over where the test is true
 abbrev here-Inv-loop : here-lts.InvT-loop
-here-Inv-loop text ends at now done lit left₀ kept₀ left kept = Sifting text at done lit (holds left₀) (holds left) (holds kept)
+here-Inv-loop text ends at now rows left₀ kept₀ left kept = Sifting text at rows (holds left₀) (holds left) (holds kept)
 
 abbrev here-μ-loop : here-lts.MeasureT-loop
-here-μ-loop text ends at now done lit left₀ kept₀ left kept = countOf (wordOf left)
+here-μ-loop text ends at now rows left₀ kept₀ left kept = countOf (holds left)
 
 here-loop-holds : (t : ℕ) → here-lts.Need-loop-holds (here-calls t) (here-at t) here.Post here-Inv-loop here-μ-loop
 here-loop-holds t c = sifting-start nothing-held
@@ -118,16 +119,32 @@ here-join-requires t c κs = search needs
 here-without-requires : (t : ℕ) → here-lts.Need-without-requires (here-calls t) (here-at t) here.Post here-Inv-loop here-μ-loop
 here-without-requires t c κs = search needs
 
+-- a round's earliest position is one of those left, and its own set holds it alone
+here-there : (t : ℕ) (c : here-lts.After-without (here-calls t) (here-at t) here.Post here-Inv-loop here-μ-loop) → let picked = c .before .before .before .before in
+    holds (picked .before .before .before .loop .left) (picked .earliest .result) ≡ true
+here-there t c =
+    let picked = c .before .before .before .before in
+    let some = picked .before in
+    earliest-there (some .before .before .loop .left) (picked .earliest .result) (λ none. off-on (not-true _ (some .if1 .taken)) (some .before .is-empty .ensures .1 none)) (picked .earliest .ensures)
+
+here-alone : (t : ℕ) (c : here-lts.After-without (here-calls t) (here-at t) here.Post here-Inv-loop here-μ-loop) → let one = c .before .before .before in
+    (q : ℕ) → (holds (one .at .result) q ≡ true) ↔ (q ≡ one .before .earliest .result)
+here-alone t c =
+    let one = c .before .before .before in
+    let picked = one .before in
+    one-there (picked .earliest .result) (one .at .result) (held-place (picked .before .before .before .loop .left) (here-there t c)) (one .at .ensures)
+
 here-loop-less : (t : ℕ) → here-lts.Need-loop-less (here-calls t) (here-at t) here.Post here-Inv-loop here-μ-loop
 here-loop-less t c =
-    let there = (earliest-there (c .before .before .before .before .before .before .before .loop .left) (c .before .before .before .before .earliest .result) (λ none. off-on (not-true _ (c .before .before .before .before .before .if1 .taken)) (c .before .before .before .before .before .before .is-empty .ensures .1 none)) (c .before .before .before .before .earliest .ensures)) in
-    let alone = one-there (c .before .before .before .before .earliest .result) (c .before .before .before .at .result) (held-place (c .before .before .before .before .before .before .before .loop .left) there) (c .before .before .before .at .ensures) (c .before .before .before .before .earliest .result) .1 refl in
-    left-falls (c .before .before .before .before .before .before .before .loop .left) (c .before .before .before .at .result) (c .without .result) (c .before .before .before .before .earliest .result) there alone (c .without .ensures)
+    let one = c .before .before .before in
+    let picked = one .before in
+    left-falls (picked .before .before .before .loop .left) (one .at .result) (c .without .result) (picked .earliest .result) (here-there t c) (here-alone t c (picked .earliest .result) .1 refl) (c .without .ensures)
 
 here-loop-again : (t : ℕ) → here-lts.Need-loop-again (here-calls t) (here-at t) here.Post here-Inv-loop here-μ-loop
 here-loop-again t c =
-    let there = (earliest-there (c .before .before .before .before .before .before .before .loop .left) (c .before .before .before .before .earliest .result) (λ none. off-on (not-true _ (c .before .before .before .before .before .if1 .taken)) (c .before .before .before .before .before .before .is-empty .ensures .1 none)) (c .before .before .before .before .earliest .ensures)) in
-    sifting-more (c .before .before .before .before .earliest .result) there (one-there (c .before .before .before .before .earliest .result) (c .before .before .before .at .result) (held-place (c .before .before .before .before .before .before .before .loop .left) there) (c .before .before .before .at .ensures)) (c .before .before .test .ensures) (c .before .join .ensures) (c .without .ensures) (c .before .before .before .before .before .before .before .loop .inv)
+    let tested = c .before .before in
+    let picked = tested .before .before in
+    sifting-more (picked .earliest .result) (here-there t c) (here-alone t c) (tested .test .ensures) (c .before .join .ensures) (c .without .ensures) (picked .before .before .before .loop .inv)
 
 here-returns : (t : ℕ) → here-lts.Need-returns (here-calls t) (here-at t) here.Post here-Inv-loop here-μ-loop
 here-returns t c = sifting-done (c .before .is-empty .ensures .0 (not-false _ (c .if1 .left))) (c .before .before .loop .inv)
@@ -135,14 +152,14 @@ here-returns t c = sifting-done (c .before .is-empty .ensures .0 (not-false _ (c
 -- ---- star
 -- what each call asks and tells
 abbrev star-calls : ℕ → star-lts.Claims
-star-calls t = (star-below t, star.Post, walk-below t, walk.Post, within-reads.Asked, within-reads.Learnt, join-reads.Asked, join-reads.Learnt)
+star-calls t = (star-below t, star.Post, walk-below t, walk.Post, join-reads.Asked, join-reads.Learnt, within-reads.Asked, within-reads.Learnt)
 
 -- it holds the start, and all that it holds is reached by a chain
 abbrev star-Inv-loop : star-lts.InvT-loop
-star-Inv-loop text ends at now back done lit sign held₀ held = Holding text at back done lit now (holds held₀) (holds held)
+star-Inv-loop text ends at now back rows sign held₀ held = Holding text at back rows now (holds held₀) (holds held)
 
 abbrev star-μ-loop : star-lts.MeasureT-loop
-star-μ-loop text ends at now back done lit sign held₀ held = places - countOf (wordOf held)
+star-μ-loop text ends at now back rows sign held₀ held = places - countOf (holds held)
 
 star-shared-slice-read-sign : (t : ℕ) → star-lts.Need-shared-slice-read-sign (star-calls t) (star-at t) star.Post star-Inv-loop star-μ-loop
 star-shared-slice-read-sign t c = within (c .before .before .pre .1 .stands)
@@ -166,20 +183,26 @@ star-walk-requires t c κs =
     let s = c .before .before .before .before in
     (omega (arith, s .pre .0), s .pre .1)
 
+star-join-requires : (t : ℕ) → star-lts.Need-join-requires (star-calls t) (star-at t) star.Post star-Inv-loop star-μ-loop
+star-join-requires t c κs = search needs
+
 star-within-requires : (t : ℕ) → star-lts.Need-within-requires (star-calls t) (star-at t) star.Post star-Inv-loop star-μ-loop
 star-within-requires t c κs = search needs
 
 star-returns-2 : (t : ℕ) → star-lts.Need-returns-2 (star-calls t) (star-at t) star.Post star-Inv-loop star-μ-loop
-star-returns-2 t c = holding-done (c .before .before .before .loop .inv) (c .before .before .walk .ensures) (c .before .within .ensures .0 (c .if2 .taken))
-
-star-join-requires : (t : ℕ) → star-lts.Need-join-requires (star-calls t) (star-at t) star.Post star-Inv-loop star-μ-loop
-star-join-requires t c κs = search needs
+star-returns-2 t c =
+    let round = c .before .before in
+    holding-done (round .before .before .loop .inv) (round .before .walk .ensures) (round .join .ensures) (c .before .within .ensures .0 (c .if2 .taken))
 
 star-loop-less : (t : ℕ) → star-lts.Need-loop-less (star-calls t) (star-at t) star.Post star-Inv-loop star-μ-loop
-star-loop-less t c = round-falls (c .before .before .before .before .loop .held) (c .before .before .before .walk .result) (c .join .result) (λ k. off-on (c .before .if2 .left) (c .before .before .within .ensures .1 k)) (c .join .ensures)
+star-loop-less t c =
+    let round = c .before .before in
+    round-falls (round .before .before .loop .held) (round .before .walk .result) (round .join .result) (round .join .ensures) (λ k. off-on (c .if2 .left) (c .before .within .ensures .1 k))
 
 star-loop-again : (t : ℕ) → star-lts.Need-loop-again (star-calls t) (star-at t) star.Post star-Inv-loop star-μ-loop
-star-loop-again t c = holding-more (c .before .before .before .before .loop .inv) (c .before .before .before .walk .ensures) (c .join .ensures)
+star-loop-again t c =
+    let round = c .before .before in
+    holding-more (round .before .before .loop .inv) (round .before .walk .ensures) (round .join .ensures)
 
 -- ---- test
 -- what each call asks and tells
@@ -193,7 +216,7 @@ test-add-part : (t : ℕ) → test-lts.Need-add-part (test-calls t) (test-at t) 
 test-add-part t c = omega (arith, within (c .before .before .pre .1 .stands), c .before .before .good .0 .0)
 
 test-row-requires : (t : ℕ) → test-lts.Need-row-requires (test-calls t) (test-at t) test.Post
-test-row-requires t c κs = fluent-number (c .before .before .before .before .pre .1) (c .before .match .keys2)
+test-row-requires t c κs = (fluent-number (c .before .before .before .pre .1) (c .match .keys2), omega arith)
 
 test-meet-requires : (t : ℕ) → test-lts.Need-meet-requires (test-calls t) (test-at t) test.Post
 test-meet-requires t c κs = search needs
@@ -251,7 +274,7 @@ test-returns : (t : ℕ) → test-lts.Need-returns (test-calls t) (test-at t) te
 test-returns t c = always-found (c .match .keys1)
 
 test-returns-2 : (t : ℕ) → test-lts.Need-returns-2 (test-calls t) (test-at t) test.Post
-test-returns-2 t c = fluent-found (holds (c .before .row .result)) (c .before .before .before .match .keys2) (c .before .row .ensures) (c .meet .ensures)
+test-returns-2 t c = fluent-found (holds (c .before .row .result)) (c .before .before .match .keys2) (c .before .row .ensures) (c .meet .ensures)
 
 test-returns-3 : (t : ℕ) → test-lts.Need-returns-3 (test-calls t) (test-at t) test.Post
 test-returns-3 t c = neg-found (c .before .before .match .keys3) (c .before .test .ensures) (c .without .ensures)
@@ -261,9 +284,12 @@ test-returns-4 t c = both-found (c .before .before .before .before .before .befo
 
 test-returns-5 : (t : ℕ) → test-lts.Need-returns-5 (test-calls t) (test-at t) test.Post
 test-returns-5 t c =
-    let none = c .before .before .before .before .before .before .match .rest in
-    let sign = last-sign (c .before .before .before .before .before .before .before .before .before .pre .1) (none .0 .0 .0 .1) (none .0 .0 .1) (none .0 .1) (none .1) in
-    diamond-found (c .before .before .before .before .before .before .before .before .before .pre .1 .marked) (c .before .before .before .before .second2 .ensures) (holds (c .before .before .before .up-to .result)) sign (c .before .before .before .up-to .ensures) (c .before .before .test4 .ensures) (c .before .walk .ensures) (c .meet2 .ensures)
+    let all = c .before .before .before in
+    let behind = all .before in
+    let start = behind .before .before .before .before .before in
+    let none = behind .before .before .match .rest in
+    let sign = last-sign (start .pre .1) (none .0 .0 .0 .1) (none .0 .0 .1) (none .0 .1) (none .1) in
+    diamond-found (start .pre .1 .marked) (behind .second2 .ensures) (holds (all .up-to .result)) sign (all .up-to .ensures) (c .before .before .test4 .ensures) (c .before .walk .ensures) (c .meet2 .ensures)
 
 -- ---- walk
 -- what each call asks and tells
@@ -337,13 +363,24 @@ walk-leaf-requires : (t : ℕ) → walk-lts.Need-leaf-requires (walk-calls t) (w
 walk-leaf-requires t c κs = leaf-part (c .before .before .before .pre .1) (left-over (c .match .rest))
 
 walk-returns : (t : ℕ) → walk-lts.Need-returns (walk-calls t) (walk-at t) walk.Post
-walk-returns t c = seq-back-found (c .before .before .before .before .before .before .before .before .pre .1 .marked) (c .before .before .before .second .ensures) (c .before .before .before .before .before .match .keys1) (c .before .before .if1 .taken) (c .before .walk .ensures) (c .walk2 .ensures)
+walk-returns t c =
+    let turned = c .before .before in
+    let behind = turned .before in
+    let sign = behind .before .before in
+    seq-back-found (sign .before .before .before .pre .1 .marked) (behind .second .ensures) (sign .match .keys1) (turned .if1 .taken) (c .before .walk .ensures) (c .walk2 .ensures)
 
 walk-returns-2 : (t : ℕ) → walk-lts.Need-returns-2 (walk-calls t) (walk-at t) walk.Post
-walk-returns-2 t c = seq-found (c .before .before .before .before .before .before .before .before .pre .1 .marked) (c .before .before .before .second .ensures) (c .before .before .before .before .before .match .keys1) (c .before .before .if1 .left) (c .before .walk3 .ensures) (c .walk4 .ensures)
+walk-returns-2 t c =
+    let ahead = c .before .before in
+    let behind = ahead .before in
+    let sign = behind .before .before in
+    seq-found (sign .before .before .before .pre .1 .marked) (behind .second .ensures) (sign .match .keys1) (ahead .if1 .left) (c .before .walk3 .ensures) (c .walk4 .ensures)
 
 walk-returns-3 : (t : ℕ) → walk-lts.Need-returns-3 (walk-calls t) (walk-at t) walk.Post
-walk-returns-3 t c = alt-found (c .before .before .before .before .before .before .before .before .pre .1 .marked) (c .before .before .before .second2 .ensures) (c .before .before .before .before .before .match .keys2) (c .before .before .walk5 .ensures) (c .before .walk6 .ensures) (c .join .ensures)
+walk-returns-3 t c =
+    let behind = c .before .before .before in
+    let sign = behind .before .before in
+    alt-found (sign .before .before .before .pre .1 .marked) (behind .second2 .ensures) (sign .match .keys2) (c .before .before .walk5 .ensures) (c .before .walk6 .ensures) (c .join .ensures)
 
 walk-returns-4 : (t : ℕ) → walk-lts.Need-returns-4 (walk-calls t) (walk-at t) walk.Post
 walk-returns-4 t c = star-found (c .before .match .keys3) (c .star .ensures)
@@ -365,6 +402,6 @@ pub +here+star+test+walk-spec : {M : Type 1} → statement M
     μ-test
     μ-walk
     (λ t. here-lts.spec (here-calls t) (here-at t) here.Post here-Inv-loop here-μ-loop (here-loop-holds t) (here-is-empty-requires t) (here-earliest-requires t) (here-at-requires t) (here-test-requires t) (here-join-requires t) (here-without-requires t) (here-loop-less t) (here-loop-again t) (here-returns t))
-    (λ t. star-lts.spec (star-calls t) (star-at t) star.Post star-Inv-loop star-μ-loop (star-shared-slice-read-sign t) (star-add-part t) (star-star-requires t) (star-returns t) (star-loop-holds t) (star-walk-requires t) (star-within-requires t) (star-returns-2 t) (star-join-requires t) (star-loop-less t) (star-loop-again t))
+    (λ t. star-lts.spec (star-calls t) (star-at t) star.Post star-Inv-loop star-μ-loop (star-shared-slice-read-sign t) (star-add-part t) (star-star-requires t) (star-returns t) (star-loop-holds t) (star-walk-requires t) (star-join-requires t) (star-within-requires t) (star-returns-2 t) (star-loop-less t) (star-loop-again t))
     (λ t. test-lts.spec (test-calls t) (test-at t) test.Post (test-shared-slice-read-sign t) (test-add-part t) (test-row-requires t) (test-meet-requires t) (test-test-requires t) (test-without-requires t) (test-second-requires t) (test-test-requires-2 t) (test-test-requires-3 t) (test-second-requires-2 t) (test-up-to-requires t) (test-test-requires-4 t) (test-walk-requires t) (test-meet-requires-2 t) (test-returns t) (test-returns-2 t) (test-returns-3 t) (test-returns-4 t) (test-returns-5 t))
     (λ t. walk-lts.spec (walk-calls t) (walk-at t) walk.Post (walk-shared-slice-read-sign t) (walk-add-part t) (walk-second-requires t) (walk-walk-requires t) (walk-walk-requires-2 t) (walk-walk-requires-3 t) (walk-walk-requires-4 t) (walk-second-requires-2 t) (walk-walk-requires-5 t) (walk-walk-requires-6 t) (walk-join-requires t) (walk-star-requires t) (walk-here-requires t) (walk-walk-requires-7 t) (walk-leaf-requires t) (walk-returns t) (walk-returns-2 t) (walk-returns-3 t) (walk-returns-4 t) (walk-returns-5 t) (walk-returns-6 t) (walk-returns-7 t))

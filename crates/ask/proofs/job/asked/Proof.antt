@@ -1,16 +1,15 @@
 -- `ask::job::asked` meets its contract: what the job asks for from 0 alone.
-use native.Mathlib.Omega.{arith}
-use denote.Ref.{now}
-use lib.ListN.{length}
-use Rattle.theory.specs.World.{worldOf}
-use Rattle.ask.specs.Found.{Told}
-use Rattle.ask.proofs.Asked.{start-up-to, front-asked}
 use borrow.Author.Needs.{needs}
+use Rattle.ask.proofs.Jobs.{asked-right}
 use Rattle.ask.proofs.job.asked.Statement.{statement}
 use Rattle.ask.proofs.job.asked.Tie as tie
 
+-- the call, from where the rows are made
+abbrev entry : tie.After-rows → tie.Start
+entry c = c .before .before .before .before
+
 transpose-requires : tie.Need-transpose-requires
-transpose-requires c κs = c .before .before .before .before .before .pre .readable
+transpose-requires c κs = entry c .pre .readable
 
 at-requires : tie.Need-at-requires
 at-requires c κs = search needs
@@ -20,17 +19,8 @@ asks-requires c κs = search needs
 
 returns : tie.Need-returns
 returns c =
-    let s = c .before .before .before .before .before .before .before .before .before .before in
-    let a = s .args in
-    let n = length (now (a .log)) in
-    let front = c .before .before .before .at .ensures in
-    record {
-      each = λ fluents actions x there.
-          let w = worldOf fluents actions (a .start) (now (a .masks)) (now (a .log)) in
-          let described = c .before .before .before .before .transpose .ensures fluents actions in
-          let told : Told w _ _ n = record { described = described; logged = omega arith; room = s .pre .readable .short } in
-          front-asked w x n _ _ front (c .asks .ensures .found w told (start-up-to n front) x there);
-    }
+    let tables = c .before .before .before in
+    asked-right (entry (tables .before) .pre) (tables .transpose .ensures) (c .before .before .at .ensures) (c .asks .ensures)
 
 pub asked-spec : {M : Type 1} → statement M
 asked-spec =

@@ -1,4 +1,5 @@
 -- `ask::step::leaf` meets its contract: each arm by the law of its sign.
+use native.Mathlib.Omega.{arith}
 use borrow.Author.Needs.{needs}
 use Rattle.positions.specs.Positions.{holds}
 use Rattle.rule.proofs.Spread.{within}
@@ -9,14 +10,17 @@ use Rattle.ask.proofs.step.leaf.Tie as tie
 shared-slice-read-sign : tie.Need-shared-slice-read-sign
 shared-slice-read-sign c = within (c .before .before .pre .stands)
 
+add-name : tie.Need-add-name
+add-name c = omega (arith, within (c .before .before .pre .stands))
+
 row-requires : tie.Need-row-requires
-row-requires c κs = act-number (c .before .before .before .before .pre) (c .before .match .keys1)
+row-requires c κs = (act-number (c .before .before .before .pre) (c .match .keys1), omega arith)
 
 cross-requires : tie.Need-cross-requires
 cross-requires c κs = search needs
 
 row-requires-2 : tie.Need-row-requires-2
-row-requires-2 c κs = undo-number (c .before .before .before .before .pre) (c .before .match .keys2)
+row-requires-2 c κs = (undo-number (c .before .before .before .pre) (c .match .keys2), omega arith)
 
 cross-requires-2 : tie.Need-cross-requires-2
 cross-requires-2 c κs = search needs
@@ -34,10 +38,10 @@ cross-requires-4 : tie.Need-cross-requires-4
 cross-requires-4 c κs = search needs
 
 returns : tie.Need-returns
-returns c = act-found (holds (c .before .row .result)) (c .before .before .before .match .keys1) (c .before .row .ensures) (c .cross .ensures)
+returns c = act-found (holds (c .before .row .result)) (c .before .before .match .keys1) (c .before .row .ensures) (c .cross .ensures)
 
 returns-2 : tie.Need-returns-2
-returns-2 c = undo-found (holds (c .before .row2 .result)) (c .before .before .before .match .keys2) (c .before .row2 .ensures) (c .cross2 .ensures)
+returns-2 c = undo-found (holds (c .before .row2 .result)) (c .before .before .match .keys2) (c .before .row2 .ensures) (c .cross2 .ensures)
 
 returns-3 : tie.Need-returns-3
 returns-3 c = next-found (holds (c .before .any-step .result)) (c .before .before .match .keys3) (c .before .any-step .ensures) (c .cross3 .ensures)
@@ -52,6 +56,7 @@ leaf-spec =
     tie.close
     (tie.spec
     shared-slice-read-sign
+    add-name
     row-requires
     cross-requires
     row-requires-2

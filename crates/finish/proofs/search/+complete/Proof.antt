@@ -22,7 +22,7 @@ use Rattle.finish.proofs.search.+complete.Tie.{close}
 
 -- how many actions are left
 abbrev μ : Measures 4 kinds.ps ℕ
-μ κs a = a .1 .1 .1 .1 .1 .1 .1 .0
+μ κs a = a .1 .1 .1 .1 .1 .1 .0
 
 abbrev given : ℕ → In 4 kinds.ps
 given t = and 4 kinds.ps (is 4 kinds.ps μ t) reads.Pre
@@ -34,14 +34,14 @@ abbrev calls : ℕ → lts.Claims
 calls t = (ended-reads.Asked, ended-reads.Learnt, tries-reads.Asked, tries-reads.Learnt, below t, reads.Post)
 
 abbrev Inv : lts.InvT-loop
-Inv actions start masks job ends trail₀ n left rest next asked a₀ trail a =
+Inv s masks job ends trail₀ n left rest next asked actions a₀ trail a =
     (a ≤ actions)
     × (length trail ≡ length trail₀)
     × (take n trail ≡ take n trail₀)
-    × Passed actions start masks job (take n trail₀) rest a
+    × Passed s masks job (take n trail₀) rest a
 
 abbrev μ-loop : lts.MeasureT-loop
-μ-loop actions start masks job ends trail₀ n left rest next asked a₀ trail a = actions - a
+μ-loop s masks job ends trail₀ n left rest next asked actions a₀ trail a = actions - a
 
 slice-reshare-prefix-ended : (t : ℕ) → lts.Need-slice-reshare-prefix-ended (calls t) (given t) reads.Post Inv μ-loop
 slice-reshare-prefix-ended t c = omega arith
@@ -53,7 +53,7 @@ ended-requires : (t : ℕ) → lts.Need-ended-requires (calls t) (given t) reads
 ended-requires t c κs =
     let s = c .before .before .before .before .before in
     let node = s .pre .1 .node in
-    record { readable = readable (s .args .actions) (now (s .args .masks)) _ (node .logged); stands = node .stands }
+    record { readable = readable (s .args .s .counts .actions) (now (s .args .masks)) _ (node .logged); stands = node .stands }
 
 same-length : (t : ℕ) → lts.Need-same-length (calls t) (given t) reads.Post Inv μ-loop
 same-length t c = search needs
@@ -62,7 +62,7 @@ returns : (t : ℕ) → lts.Need-returns (calls t) (given t) reads.Post Inv μ-l
 returns t c =
     let a = c .before .before .before .before .before .before .args in
     rw (c .before .before .if1 .taken)
-    (leaf-told (a .actions) (a .start) (now (a .masks)) (now (a .job)) (now (a .trail)) (a .n) (c .ended .result) (c .ended .ensures))
+    (leaf-told (a .s) (now (a .masks)) (now (a .job)) (now (a .trail)) (a .n) (c .ended .result) (c .ended .ensures))
 
 sub-rest : (t : ℕ) → lts.Need-sub-rest (calls t) (given t) reads.Post Inv μ-loop
 sub-rest t c = omega arith
@@ -80,7 +80,7 @@ tries-requires : (t : ℕ) → lts.Need-tries-requires (calls t) (given t) reads
 tries-requires t c κs = c .before .before .before .before .before .pre .1 .node
 
 loop-holds : (t : ℕ) → lts.Need-loop-holds (calls t) (given t) reads.Post Inv μ-loop
-loop-holds t c = (omega arith, refl, refl, λ fluents x j b h. absurd (omega arith))
+loop-holds t c = (omega arith, refl, refl, λ x j b h. absurd (omega arith))
 
 shr-from-a : (t : ℕ) → lts.Need-shr-from-a (calls t) (given t) reads.Post Inv μ-loop
 shr-from-a t c = omega arith
@@ -93,31 +93,31 @@ slice-write-trail t c = omega arith
 
 complete-requires : (t : ℕ) → lts.Need-complete-requires (calls t) (given t) reads.Post Inv μ-loop
 complete-requires t c κs =
-    let s = c .before .before .before .before .before .before .before .before .before .before in
+    let s = c .before .before .before .before .before .before .before .before .before .before .before in
     let a = s .args in
     let k = c .before .before .before .loop in (
       omega arith,
-      ready-more (a .actions) (now (a .masks)) (now (a .job)) (now (a .ends)) (now (a .trail)) (k .trail) (a .n) (a .left) (a .left - 1) (k .a)
+      ready-more (a .s .counts .actions) (now (a .masks)) (now (a .job)) (now (a .ends)) (now (a .trail)) (k .trail) (a .n) (a .left) (a .left - 1) (k .a)
           (omega arith) (s .pre .1) (k .inv .1) (k .inv .2) (omega arith),
     )
 
 same-length-2 : (t : ℕ) → lts.Need-same-length-2 (calls t) (given t) reads.Post Inv μ-loop
 same-length-2 t c =
     let k = c .before .before .before .before .before .before .before .loop in
-    c .before .before .before .complete .kept .1 .1 .1 .1 .1 .0 ∙ simp length-set (k .inv .1)
+    c .before .before .before .complete .kept .1 .1 .1 .1 .0 ∙ simp length-set (k .inv .1)
 
 returns-2 : (t : ℕ) → lts.Need-returns-2 (calls t) (given t) reads.Post Inv μ-loop
 returns-2 t c =
-    let s = c .before .before .before .before .before .before .before .before .before .before .before .before .before .before in
+    let s = c .before .before .before .before .before .before .before .before .before .before .before .before .before .before .before in
     let a = s .args in
     let k = c .before .before .before .before .before .before .before .loop in
     let call = c .before .before .before .complete in
-    let asked = c .before .before .before .before .before .before .before .before .tries in
-    tried-told (a .actions) (a .start) (now (a .masks)) (now (a .job)) (now (a .trail)) (k .trail) (call .last .1 .1 .1 .1 .1 .0) (a .n) (a .left)
+    let asked = c .before .before .before .before .before .before .before .before .before .tries in
+    tried-told (a .s) (now (a .masks)) (now (a .job)) (now (a .trail)) (k .trail) (call .last .1 .1 .1 .1 .0) (a .n) (a .left)
     (a .left - 1) (k .a) (asked .result)
-    (omega (arith, c .before .before .before .before .before .before .before .before .before .before .if1 .left))
-    (place (a .actions) (now (a .masks)) (now (a .job)) (now (a .ends)) (now (a .trail)) (k .trail) (a .n) (a .left) (s .pre .1) (k .inv .1))
-    (call .kept .1 .1 .1 .1 .1 .0 ∙ length-set (k .trail) (a .n) (k .a))
+    (omega (arith, c .before .before .before .before .before .before .before .before .before .before .before .if1 .left))
+    (place (a .s .counts .actions) (now (a .masks)) (now (a .job)) (now (a .ends)) (now (a .trail)) (k .trail) (a .n) (a .left) (s .pre .1) (k .inv .1))
+    (call .kept .1 .1 .1 .1 .0 ∙ length-set (k .trail) (a .n) (k .a))
     (k .inv .2)
     (asked .ensures)
     (bit-on (asked .result) (k .a) (c .before .before .before .before .before .if2 .taken))
@@ -132,33 +132,33 @@ loop-less t c = omega arith
 
 -- the place behind the log, as the loop has it
 behind : (t : ℕ) (c : lts.At-loop (calls t) (given t) reads.Post Inv μ-loop)
-    → c .before .before .before .before .before .before .before .args .n < length (c .loop .trail)
+    → c .before .before .before .before .before .before .before .before .args .n < length (c .loop .trail)
 behind t c =
-    let s = c .before .before .before .before .before .before .before in
+    let s = c .before .before .before .before .before .before .before .before in
     let a = s .args in
-    place (a .actions) (now (a .masks)) (now (a .job)) (now (a .ends)) (now (a .trail)) (c .loop .trail) (a .n) (a .left) (s .pre .1) (c .loop .inv .1)
+    place (a .s .counts .actions) (now (a .masks)) (now (a .job)) (now (a .ends)) (now (a .trail)) (c .loop .trail) (a .n) (a .left) (s .pre .1) (c .loop .inv .1)
 
 loop-again : (t : ℕ) → lts.Need-loop-again (calls t) (given t) reads.Post Inv μ-loop
 loop-again t c =
-    let a = c .before .before .before .before .before .before .before .before .before .args in
+    let a = c .before .before .before .before .before .before .before .before .before .before .args in
     let k = c .before .before .loop in
-    let asked = c .before .before .before .tries in
+    let asked = c .before .before .before .before .tries in
     ⊎-elim
     (λ w.
     let call = w .2 in
-    let last = call .last .1 .1 .1 .1 .1 .0 in
+    let last = call .last .1 .1 .1 .1 .0 in
     rw (w .6) (
       omega arith,
-      call .kept .1 .1 .1 .1 .1 .0 ∙ length-set (k .trail) (a .n) (k .a) ∙ k .inv .1,
-      kept-tried (a .actions) (a .start) (now (a .masks)) (now (a .job)) (now (a .trail)) (k .trail) last (a .n) (k .a) (behind t (c .before .before)) (k .inv .2) (call .ensures .kept),
-      passed-tried (a .actions) (a .start) (now (a .masks)) (now (a .job)) (now (a .trail)) (k .trail) last (a .n) (a .left - 1) (k .a) (behind t (c .before .before)) (k .inv .2)
+      call .kept .1 .1 .1 .1 .0 ∙ length-set (k .trail) (a .n) (k .a) ∙ k .inv .1,
+      kept-tried (a .s) (now (a .masks)) (now (a .job)) (now (a .trail)) (k .trail) last (a .n) (k .a) (behind t (c .before .before)) (k .inv .2) (call .ensures .kept),
+      passed-tried (a .s) (now (a .masks)) (now (a .job)) (now (a .trail)) (k .trail) last (a .n) (a .left - 1) (k .a) (behind t (c .before .before)) (k .inv .2)
           (rw (w .5 .left) at (call .ensures)) (k .inv .3),
     ))
     (λ w. rw (w .1) (
       omega arith,
       k .inv .1,
       k .inv .2,
-      passed-out (a .actions) (a .start) (now (a .masks)) (now (a .job)) (take (a .n) (now (a .trail))) (a .left - 1) (k .a) (asked .result) (asked .ensures)
+      passed-out (a .s) (now (a .masks)) (now (a .job)) (take (a .n) (now (a .trail))) (a .left - 1) (k .a) (asked .result) (asked .ensures)
           (bit-off (asked .result) (k .a) (w .0 .left)) (k .inv .3),
     ))
     (c .if2 .came)
@@ -168,10 +168,10 @@ same-length-3 t c = c .before .loop .inv .1
 
 returns-3 : (t : ℕ) → lts.Need-returns-3 (calls t) (given t) reads.Post Inv μ-loop
 returns-3 t c =
-    let a = c .before .before .before .before .before .before .before .before .args in
+    let a = c .before .before .before .before .before .before .before .before .before .args in
     let k = c .before .loop in
-    none-told (a .actions) (a .start) (now (a .masks)) (now (a .job)) (now (a .trail)) (k .trail) (a .n) (a .left) (a .left - 1) (omega arith) (k .inv .2)
-    (λ fluents x j i h. k .inv .3 fluents x j i (omega arith))
+    none-told (a .s) (now (a .masks)) (now (a .job)) (now (a .trail)) (k .trail) (a .n) (a .left) (a .left - 1) (omega arith) (k .inv .2)
+    (λ x j i h. k .inv .3 x j i (omega arith))
 
 pub +complete-spec : {M : Type 1} → statement M
 +complete-spec = close μ λ t. lts.spec (calls t) (given t) reads.Post Inv μ-loop

@@ -9,35 +9,35 @@ use Rattle.finish.proofs.search.first.Statement.{statement}
 use Rattle.finish.proofs.search.first.Tie as tie
 
 abbrev Inv-loop : tie.InvT-loop
-Inv-loop actions start masks job ends trail₀ n more most k₀ trail k =
-    (k ≤ most + 1) × (length trail ≡ length trail₀) × (take n trail ≡ take n trail₀) × Fewer actions start masks job (take n trail₀) k
+Inv-loop s masks job ends trail₀ n more most k₀ trail k =
+    (k ≤ most + 1) × (length trail ≡ length trail₀) × (take n trail ≡ take n trail₀) × Fewer s masks job (take n trail₀) k
 
 abbrev μ-loop : tie.MeasureT-loop
-μ-loop actions start masks job ends trail₀ n more most k₀ trail k = most + 1 - k
+μ-loop s masks job ends trail₀ n more most k₀ trail k = most + 1 - k
 
 longest-requires : tie.Need-longest-requires Inv-loop μ-loop
 longest-requires c κs = omega arith
 
 loop-holds : tie.Need-loop-holds Inv-loop μ-loop
-loop-holds c = (omega arith, refl, refl, λ fluents x i j h. absurd (omega arith))
+loop-holds c = (omega arith, refl, refl, λ x i j h. absurd (omega arith))
 
 complete-requires : tie.Need-complete-requires Inv-loop μ-loop
 complete-requires c κs =
     let s = c .before .before .before .before .before .before .before in
     let a = s .args in
     let k = c .before .before .loop in
-    ready-again (a .actions) (now (a .masks)) (now (a .job)) (now (a .ends)) (now (a .trail)) (k .trail) (a .n) (k .k) (s .pre) (k .inv .1) (k .inv .2)
+    ready-again (a .s .counts .actions) (now (a .masks)) (now (a .job)) (now (a .ends)) (now (a .trail)) (k .trail) (a .n) (k .k) (s .pre) (k .inv .1) (k .inv .2)
     (omega arith)
 
 same-length : tie.Need-same-length Inv-loop μ-loop
-same-length c = c .before .before .before .complete .kept .1 .1 .1 .1 .1 .0 ∙ c .before .before .before .before .before .before .loop .inv .1
+same-length c = c .before .before .before .complete .kept .1 .1 .1 .1 .0 ∙ c .before .before .before .before .before .before .loop .inv .1
 
 returns : tie.Need-returns Inv-loop μ-loop
 returns c =
     let a = c .before .before .before .before .before .before .before .before .before .before .before .args in
     let k = c .before .before .before .before .before .before .loop in
     let call = c .before .before .before .complete in
-    at-told (a .actions) (a .start) (now (a .masks)) (now (a .job)) (now (a .trail)) (k .trail) (call .last .1 .1 .1 .1 .1 .0) (a .n) (a .more) (k .k)
+    at-told (a .s) (now (a .masks)) (now (a .job)) (now (a .trail)) (k .trail) (call .last .1 .1 .1 .1 .0) (a .n) (a .more) (k .k)
     (omega arith) (omega arith) (omega arith)
     (k .inv .2) (k .inv .3) (rw (c .if1 .taken) at (call .ensures))
 
@@ -52,12 +52,12 @@ loop-again c =
     let a = c .before .before .before .before .before .before .before .before .before .before .before .args in
     let k = c .before .before .before .before .before .before .loop in
     let call = c .before .before .before .complete in
-    let last = call .last .1 .1 .1 .1 .1 .0 in
+    let last = call .last .1 .1 .1 .1 .0 in
     let kept : take (a .n) last ≡ take (a .n) (k .trail) = call .ensures .kept in (
       omega arith,
-      call .kept .1 .1 .1 .1 .1 .0 ∙ k .inv .1,
+      call .kept .1 .1 .1 .1 .0 ∙ k .inv .1,
       kept ∙ k .inv .2,
-      fewer-more (a .actions) (a .start) (now (a .masks)) (now (a .job)) (now (a .trail)) (k .trail) last (a .n) (k .k) (k .inv .2)
+      fewer-more (a .s) (now (a .masks)) (now (a .job)) (now (a .trail)) (k .trail) last (a .n) (k .k) (k .inv .2)
           (rw (c .if1 .left) at (call .ensures)) (k .inv .3),
     )
 
@@ -68,7 +68,7 @@ returns-2 : tie.Need-returns-2 Inv-loop μ-loop
 returns-2 c =
     let a = c .before .before .before .before .before .before .args in
     let k = c .before .loop in
-    nothing-told (a .actions) (a .start) (now (a .masks)) (now (a .job)) (now (a .trail)) (k .trail) (a .n) (a .more) (k .k) (omega arith) (omega arith) (k .inv .3)
+    nothing-told (a .s) (now (a .masks)) (now (a .job)) (now (a .trail)) (k .trail) (a .n) (a .more) (k .k) (omega arith) (omega arith) (k .inv .3)
 
 pub first-spec : {M : Type 1} → statement M
 first-spec =

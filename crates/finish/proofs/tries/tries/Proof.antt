@@ -5,15 +5,15 @@ use denote.Ref.{now}
 use lib.ListN.{length}
 use Rattle.meaning.specs.Theory.{stateAt}
 use Rattle.meaning.proofs.Theory.{state-end}
-use Rattle.theory.specs.World.{Readable, worldOf}
+use Rattle.theory.specs.Subject.{Readable, subjectOf, worldOf}
 use Rattle.finish.proofs.Sound.{readable}
-use Rattle.finish.proofs.LeftOut.{asked-tries}
+use Rattle.finish.proofs.LeftOut.{asked-next}
 use borrow.Author.Needs.{needs}
 use Rattle.finish.proofs.tries.tries.Statement.{statement}
 use Rattle.finish.proofs.tries.tries.Tie as tie
 
 logged : (s : tie.Start) → Readable (now (s .args .masks)) (now (s .args .log))
-logged s = readable (s .args .actions) (now (s .args .masks)) (now (s .args .log)) (s .pre .logged)
+logged s = readable (s .args .s .counts .actions) (now (s .args .masks)) (now (s .args .log)) (s .pre .logged)
 
 asked-requires : tie.Need-asked-requires
 asked-requires c κs =
@@ -28,15 +28,16 @@ doable-requires c κs = search needs
 
 returns : tie.Need-returns
 returns c =
-    let s = c .before .before .before .before .before .before in
+    let s = c .before .before .before .before .before .before .before in
     let a = s .args in
     record {
-      each = λ fluents x j.
-          let w = worldOf fluents (a .actions) (a .start) (now (a .masks)) (now (a .log)) in
-          let here : c .before .state-at .result ≡ stateAt w (length (now (a .log))) = c .before .state-at .ensures fluents (a .actions) in
-          asked-tries fluents (a .actions) (a .start) (now (a .masks)) (now (a .log)) x (c .before .state-at .result) (c .doable .result)
-          (c .before .before .asked .result) (s .pre .logged .table .few) (j .onward) (here ∙ state-end w) (c .doable .ensures)
-          (c .before .before .asked .ensures .each fluents (a .actions) x (j .there));
+      each = λ x j.
+          let subject = subjectOf (a .s) (now (a .masks)) (now (a .log)) in
+          let w = worldOf subject in
+          let here : c .before .before .state-at .result ≡ stateAt w (length (now (a .log))) = c .before .before .state-at .ensures in
+          asked-next subject x (c .before .before .state-at .result) (c .doable .result)
+          (c .before .before .before .asked .result) (s .pre .logged .table .few) (here ∙ state-end w) (c .doable .ensures)
+          (c .before .before .before .asked .ensures .each x (j .there));
     }
 
 pub tries-spec : {M : Type 1} → statement M

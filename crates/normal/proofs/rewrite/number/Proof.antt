@@ -1,4 +1,4 @@
--- `normal::rewrite::number` meets its contract: two bytes are put one behind the other. Assumes nothing.
+-- `rewrite::number` meets its contract: two bytes are put one behind the other.
 use mathlib.Core.Path.{refl}
 use borrow.Author.Needs.{needs}
 use Rattle.normal.proofs.rewrite.number.Statement.{statement}
@@ -22,22 +22,17 @@ shared-slice-read-put-2 c = search needs
 put-requires-2 : tie.Need-put-requires-2
 put-requires-2 c κs = search needs
 
-add-t12 : tie.Need-add-t12
-add-t12 c = search needs
-
-add-t13 : tie.Need-add-t13
-add-t13 c = search needs
+add-result : tie.Need-add-result
+add-result c = search needs
 
 same-length : tie.Need-same-length
 same-length c = search needs
 
 returns : tie.Need-returns
 returns c =
-    record {
-      read = refl;
-      wrote = refl;
-      copied = cc (c .before .before .put2 .ensures, c .before .before .before .before .before .before .before .put .ensures);
-    }
+    let second = c .before .before in
+    let first = second .before .before .before .before .before in
+    record { wrote = refl; copied = cc (second .put2 .ensures, first .put .ensures) }
 
 pub number-spec : {M : Type 1} → statement M
 number-spec =
@@ -49,7 +44,6 @@ number-spec =
     add-put-2
     shared-slice-read-put-2
     put-requires-2
-    add-t12
-    add-t13
+    add-result
     same-length
     returns)

@@ -2,7 +2,7 @@
 use borrow.Author.Needs.{needs}
 use mathlib.Core.Path.{sym, ap}
 use native.Mathlib.Omega.{arith}
-use Rattle.rule.specs.declared.number.Number.{Number}
+use Rattle.spelling.specs.declared.Digits.{Digits}
 use Rattle.rule.specs.Facts.{fluentOf}
 use Rattle.rule.proofs.Numbers.{number-named}
 use Rattle.rule.proofs.answer.fluent.Statement.{statement}
@@ -27,7 +27,7 @@ returns : tie.Need-returns
 returns c = search needs
 
 returns-2 : tie.Need-returns-2
-returns-2 c = ap (λ (n : Number). fluentOf n (c .before .before .before .args .end)) (sym (c .before .name .given .1))
+returns-2 c = ap (λ (n : Digits). fluentOf n (c .before .before .before .args .end)) (sym (c .before .name .given .1))
 
 pub fluent-spec : {M : Type 1} → statement M
 fluent-spec = tie.close (tie.spec enum-told enum-known-name cast-t5 cast-t6 add-t7 returns returns-2)

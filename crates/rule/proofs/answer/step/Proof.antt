@@ -2,7 +2,7 @@
 use borrow.Author.Needs.{needs}
 use mathlib.Core.Path.{sym, ap}
 use native.Mathlib.Omega.{arith}
-use Rattle.rule.specs.declared.number.Number.{Number}
+use Rattle.spelling.specs.declared.Digits.{Digits}
 use Rattle.rule.specs.Facts.{stepOf}
 use Rattle.rule.proofs.Numbers.{number-named}
 use Rattle.rule.proofs.answer.step.Statement.{statement}
@@ -27,7 +27,7 @@ returns : tie.Need-returns
 returns c = search needs
 
 returns-2 : tie.Need-returns-2
-returns-2 c = ap (λ (n : Number). stepOf n (c .before .before .before .args .end) (c .before .before .before .args .turn)) (sym (c .before .name .given .1))
+returns-2 c = ap (λ (n : Digits). stepOf n (c .before .before .before .args .end) (c .before .before .before .args .turn)) (sym (c .before .name .given .1))
 
 pub step-spec : {M : Type 1} → statement M
 step-spec = tie.close (tie.spec enum-told enum-known-name cast-t6 cast-t7 add-t8 returns returns-2)

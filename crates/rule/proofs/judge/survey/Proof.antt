@@ -1,22 +1,28 @@
 -- `judge::survey` meets its contract, by the laws of `Outcomes`.
 use mathlib.Core.Path.{subst}
-use Rattle.laws.proofs.Truth.{off-on}
-use Rattle.meaning.specs.Refusal.{BadCounts}
-use Rattle.rule.specs.Outcome.{kindOf, OpenedAs}
-use Rattle.rule.proofs.Outcomes as laws
 use borrow.Author.Needs.{needs}
+use Rattle.laws.proofs.Truth.{off-on}
+use Rattle.theory.specs.Rows.{CountsOut}
+use Rattle.rule.specs.Outcome.{kindOf}
+use Rattle.rule.specs.Judged.{OpenedAs}
+use Rattle.rule.proofs.Outcomes as laws
 use Rattle.rule.proofs.judge.survey.Statement.{statement}
 use Rattle.rule.proofs.judge.survey.Tie as tie
+
+-- the place where the counts are in their range, and what is known there
+abbrev start : tie.Else1 → tie.Start
+start p = p .before .before .before
+
+good : (p : tie.Else1) → CountsOut (start p .args .counts) → ⊥
+good p bad = off-on (p .if1 .left) (p .before .bad-counts .ensures .1 bad)
 
 bad-counts-requires : tie.Need-bad-counts-requires
 bad-counts-requires c κs = search needs
 
 returns : tie.Need-returns
 returns c =
-    let e = c .before .before .before in
-    let kind = kindOf (e .args .kind) in
-    let text = e .args .text .now in
-    laws.counts-refused (e .args .whole) kind text (e .args .fluents) (e .args .actions) (c .before .bad-counts .ensures .0 (c .if1 .taken))
+    let a = c .before .before .before .args in
+    laws.counts-refused (a .whole) (kindOf (a .kind)) (a .text .now) (a .counts) (c .before .bad-counts .ensures .0 (c .if1 .taken))
 
 opening-requires : tie.Need-opening-requires
 opening-requires c κs = search needs
@@ -32,19 +38,20 @@ judge-requires c κs = search needs
 
 returns-2 : tie.Need-returns-2
 returns-2 c =
-    let e = c .before .before .before .before .before .before in
-    let kind = kindOf (e .args .kind) in
-    let text = e .args .text .now in
-    let good : ¬ BadCounts (e .args .fluents) (e .args .actions) = λ bad. off-on (c .before .before .before .if1 .left) (c .before .before .before .before .bad-counts .ensures .1 bad) in
-    laws.rule-refused (e .args .whole) kind text (e .args .fluents) (e .args .actions) good (subst (OpenedAs (e .args .whole) kind text) (c .enum-told .given .1) (c .before .before .opening .ensures))
+    let opened = c .before .before in
+    let p = opened .before in
+    let a = start p .args in
+    laws.rule-refused (a .whole) (kindOf (a .kind)) (a .text .now) (a .counts) (good p)
+    (subst (OpenedAs (a .whole) (kindOf (a .kind)) (a .text .now)) (c .enum-told .given .1) (opened .opening .ensures))
 
 returns-3 : tie.Need-returns-3
 returns-3 c =
-    let e = c .before .before .before .before .before .before .before .before in
-    let kind = kindOf (e .args .kind) in
-    let text = e .args .text .now in
-    let good : ¬ BadCounts (e .args .fluents) (e .args .actions) = λ bad. off-on (c .before .before .before .before .before .if1 .left) (c .before .before .before .before .before .before .bad-counts .ensures .1 bad) in
-    laws.facts-judged (e .args .whole) kind text (e .args .fluents) (e .args .actions) (c .before .before .f .given .0 .0) (c .judge .result) good (subst (OpenedAs (e .args .whole) kind text) (c .before .before .f .given .1) (c .before .before .before .before .opening .ensures)) (c .judge .ensures)
+    let found = c .before .before in
+    let opened = found .before .before in
+    let p = opened .before in
+    let a = start p .args in
+    laws.facts-judged (a .whole) (kindOf (a .kind)) (a .text .now) (a .counts) (found .f .given .0 .0) (c .judge .result) (good p)
+    (subst (OpenedAs (a .whole) (kindOf (a .kind)) (a .text .now)) (found .f .given .1) (opened .opening .ensures)) (c .judge .ensures)
 
 pub survey-spec : {M : Type 1} → statement M
 survey-spec =

@@ -1,5 +1,5 @@
 -- `sheet::act::act_line` meets its contract. Assumes nothing.
-use mathlib.Core.Path.{_≡_, refl, sym, subst}
+use mathlib.Core.Path.{_≡_, refl, sym, ap, subst}
 use mathlib.Core.Logic.{inr}
 use mathlib.Core.Bool.{Bool, true, false}
 use mathlib.Core.List.{List}
@@ -12,22 +12,17 @@ use Rattle.laws.proofs.Truth.{off-on}
 use Rattle.meaning.specs.Refusal.{OneLacking}
 use Rattle.meaning.proofs.Refusal.{here}
 use Rattle.sheet.specs.Line.{Says}
-use Rattle.sheet.specs.Scan.{stretch}
-use Rattle.sheet.specs.Forms.{actForm, rowOf}
-use Rattle.sheet.specs.Found.{Stands, LineFound}
-use Rattle.sheet.specs.Act.{masksAt, MasksRead}
-use Rattle.sheet.proofs.MaskRow.{row-list, lacking-only}
+use Rattle.spelling.specs.Scan.{stretch}
+use Rattle.sheet.specs.Forms.{actForm}
+use Rattle.sheet.specs.Found.{CursorAt, LineFound}
+use Rattle.sheet.specs.Acts.{rowAt, MasksRead}
+use Rattle.sheet.proofs.MaskRow.{lacking-only}
 use Rattle.sheet.proofs.Forms.{act-clear}
 use Rattle.sheet.proofs.Rows.{judged}
 use Rattle.sheet.proofs.Say.{passed-on, unsaid, says, accepted}
 use borrow.Author.Needs.{needs}
 use Rattle.sheet.proofs.act.act_line.Statement.{statement}
 use Rattle.sheet.proofs.act.act_line.Tie as tie
-use Rattle.sheet.proofs.act.act_line.Reads as reads
-use Rattle.sheet.proofs.act.act_line.Lts as lts
-use Rattle.sheet.proofs.act.read_masks.Reads as read-masks-reads
-use Rattle.sheet.proofs.line.line_at.Reads as line-at-reads
-use Rattle.theory.proofs.faults.bad_masks.Reads as bad-masks-reads
 
 slice-aggregate-line-at : tie.Need-slice-aggregate-line-at
 slice-aggregate-line-at c = search needs
@@ -36,22 +31,25 @@ line-at-requires : tie.Need-line-at-requires
 line-at-requires c κs = search needs
 
 enum-known-f : tie.Need-enum-known-f
-enum-known-f c = search needs
+enum-known-f c = c .match .keys1
 
 enum-known-c : tie.Need-enum-known-c
-enum-known-c c = search needs
+enum-known-c c = c .match .keys2
 
 -- the line that was found, and what reading its masks told
 abbrev entry : tie.After-known-told2 → tie.Start
 entry c = c .before .before .before .before .before .before .before
 
-stood : (c : tie.After-known-told2) → let a = entry c .args in Stands (bytes "act=") (a .sheet .now) (a .at) (a .line) (c .before .c .given .0 .0)
+stood : (c : tie.After-known-told2) → let a = entry c .args in CursorAt (bytes "act=") (a .sheet .now) (a .at) (a .line) (c .before .c .given .0 .0)
 stood c =
     let a = entry c .args in
     subst (LineFound (bytes "act=") (a .sheet .now) (a .at) (a .line)) (c .before .c .given .1) (c .before .before .before .line-at .ensures)
 
 read-masks-requires : tie.Need-read-masks-requires
-read-masks-requires c κs = let s = stood (c .before) in (s .onward, omega (arith, s .within), entry (c .before) .pre .2)
+read-masks-requires c κs =
+    let s = stood (c .before) in
+    let pre = entry (c .before) .pre in
+    (s .onward, omega (arith, s .within), pre .1 .some, pre .1 .few, pre .3)
 
 same-length : tie.Need-same-length
 same-length c = search needs
@@ -60,37 +58,38 @@ abbrev found : tie.After-slice-known2 → tie.After-known-told2
 found c = c .before .before .before .before
 
 abbrev table : tie.After-slice-known2 → List ℕ
-table c = c .before .before .read-masks .last .1 .1 .1 .0
+table c = c .before .before .read-masks .last .1 .1 .1 .1 .0
 
 told :
     (c : tie.After-slice-known2) (b : Bool) → c .before .before .read-masks .result ≡ b
-    → let k = found c in MasksRead (stretch (entry k .args .sheet .now) (k .before .c .given .0 .0 .start) (k .before .c .given .0 .0 .end)) (table c) (entry k .args .row) b
+    → let k = found c in MasksRead (stretch (entry k .args .sheet .now) (k .before .c .given .0 .0 .start) (k .before .c .given .0 .0 .end)) (table c) (entry k .args .row) (entry k .args .version .masks) b
 told c b e =
     let k = found c in
-    subst (MasksRead (stretch (entry k .args .sheet .now) (k .before .c .given .0 .0 .start) (k .before .c .given .0 .0 .end)) (table c) (entry k .args .row)) e
+    subst (MasksRead (stretch (entry k .args .sheet .now) (k .before .c .given .0 .0 .start) (k .before .c .given .0 .0 .end)) (table c) (entry k .args .row) (entry k .args .version .masks)) e
     (c .before .before .read-masks .ensures .1)
 
 -- the masks that the table now has
-read : (c : tie.Else1) → let k = found (c .before) in Says (actForm (entry k .args .fluents)) (entry k .args .sheet .now) (entry k .args .at) (masksAt (table (c .before)) (entry k .args .row))
+read : (c : tie.Else1) → let k = found (c .before) in Says (actForm (entry k .args .version) (entry k .args .fluents)) (entry k .args .sheet .now) (entry k .args .at) (rowAt (table (c .before)) (entry k .args .row) (entry k .args .version .masks))
 read c =
     let k = found (c .before) in
     let a = entry k .args in
     let t = told (c .before) true (not-false _ (c .if1 .left)) in
-    says (actForm (a .fluents)) (a .sheet .now) (a .at) (a .line) (stood k) (masksAt (table (c .before)) (a .row)) (t .0) (t .1)
+    says (actForm (a .version) (a .fluents)) (a .sheet .now) (a .at) (a .line) (stood k) (rowAt (table (c .before)) (a .row) (a .version .masks)) (t .0) (t .1)
 
--- what the check of the row says of them
-row-is : (c : tie.Else1) → let k = found (c .before) in
-    take (entry k .args .row + 4 - entry k .args .row) (drop (entry k .args .row) (table (c .before))) ≡ rowOf (masksAt (table (c .before)) (entry k .args .row))
+-- what the check looks at is the row
+row-is : (c : tie.Else1) → let k = found (c .before) in let a = entry k .args in
+    take (a .row + a .version .masks - a .row) (drop (a .row) (table (c .before))) ≡ rowAt (table (c .before)) (a .row) (a .version .masks)
 row-is c =
-    let k = found (c .before) in
-    row-list (table (c .before)) (entry k .args .row) (omega (arith, entry k .pre .2, c .before .before .before .read-masks .kept))
+    let a = entry (found (c .before)) .args in
+    let n : a .row + a .version .masks - a .row ≡ a .version .masks = omega arith in
+    ap (λ (k : ℕ). take k (drop (a .row) (table (c .before)))) n
 
 returns : tie.Need-returns
 returns c =
     let a = entry (found (c .before)) .args in (
       c .before .before .before .read-masks .ensures .0,
       (
-        unsaid (actForm (a .fluents)) (a .sheet .now) (a .at) (a .line) tt (stood (found (c .before))) (told (c .before) false (not-true _ (c .if1 .taken))),
+        unsaid (actForm (a .version) (a .fluents)) (a .sheet .now) (a .at) (a .line) (stood (found (c .before))) (told (c .before) false (not-true _ (c .if1 .taken))),
         refl,
       ),
     )
@@ -121,12 +120,12 @@ returns-2 c =
     let e = c .before .before .before .before in
     let k = found (e .before) in
     let a = entry k .args in
-    let m = masksAt (table (e .before)) (a .row) in
+    let m = rowAt (table (e .before)) (a .row) (a .version .masks) in
     let lacks = lacking-only (a .fluents) _ (c .before .bad-masks .ensures .0 (c .if2 .taken)) in (
       e .before .before .before .read-masks .ensures .0,
       (
-        judged (actForm (a .fluents)) (a .sheet .now) (a .at) m (read e)
-            (here tt (record { said = m; says = read e; fault = subst (OneLacking (a .fluents)) (row-is e) lacks })),
+        judged (actForm (a .version) (a .fluents)) (a .sheet .now) (a .at) m (read e)
+            (here (record { said = m; says = read e; fault = subst (OneLacking (a .fluents)) (row-is e) lacks })),
         refl,
       ),
     )
@@ -135,7 +134,7 @@ returns-3 : tie.Need-returns-3
 returns-3 c =
     let a = c .before .before .before .before .before .before .before .args in (
       record { front = refl; back = refl },
-      passed-on (actForm (a .fluents)) (a .sheet .now) (a .at) (a .line) (λ c. masksAt (a .masks .now) (a .row)) (c .before .f .given .0 .0) tt
+      passed-on (actForm (a .version) (a .fluents)) (a .sheet .now) (a .at) (a .line) (λ c. rowAt (a .masks .now) (a .row) (a .version .masks)) (c .before .f .given .0 .0)
           (subst (LineFound (bytes "act=") (a .sheet .now) (a .at) (a .line)) (c .before .f .given .1) (c .before .before .before .line-at .ensures)),
     )
 
@@ -147,10 +146,10 @@ returns-4 c =
     let e = c .before .before .before .before in
     let k = found (e .before) in
     let a = entry k .args in
-    let m = masksAt (table (e .before)) (a .row) in
+    let m = rowAt (table (e .before)) (a .row) (a .version .masks) in
     let t = told (e .before) true (not-false _ (e .if1 .left)) in (
       e .before .before .before .read-masks .ensures .0,
-      accepted (actForm (a .fluents)) (a .sheet .now) (a .at) (a .line) (act-clear (a .fluents)) (stood k) m (t .0) (t .1)
+      accepted (actForm (a .version) (a .fluents)) (a .sheet .now) (a .at) (a .line) (act-clear (a .version) (a .fluents)) (stood k) m (t .0) (t .1)
           (λ lacks. off-on (c .if2 .left) (c .before .bad-masks .ensures .1 (inr (subst (OneLacking (a .fluents)) (sym (row-is e)) lacks))), tt),
     )
 

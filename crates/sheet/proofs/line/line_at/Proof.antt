@@ -1,16 +1,12 @@
 -- `sheet::line::line_at` meets its contract. Assumes nothing.
-use mathlib.Core.Path.{_≡_, refl, sym, _∙_}
+use mathlib.Core.Path.{refl, sym, _∙_}
 use mathlib.Core.Bool.{false≢true}
 use native.Mathlib.Omega.{arith}
 use borrow.Author.Needs.{needs}
-use Rattle.sheet.proofs.Bytes.{opens-long}
+use Rattle.spelling.proofs.Bytes.{opens-long}
 use Rattle.sheet.proofs.Ends.{no-key, no-lf, found-line}
 use Rattle.sheet.proofs.line.line_at.Statement.{statement}
 use Rattle.sheet.proofs.line.line_at.Tie as tie
-use Rattle.sheet.proofs.line.line_at.Reads as reads
-use Rattle.sheet.proofs.line.line_at.Lts as lts
-use Rattle.sheet.proofs.scan.find_lf.Reads as find-lf-reads
-use Rattle.sheet.proofs.scan.opens_with.Reads as opens-with-reads
 
 opens-with-requires : tie.Need-opens-with-requires
 opens-with-requires c κs = search needs

@@ -6,12 +6,12 @@ use native.Mathlib.Omega.{arith}
 use borrow.Author.Needs.{needs}
 use Rattle.meaning.specs.Refusal.{Refused}
 use Rattle.sheet.specs.Line.{Form, lineRows}
-use Rattle.sheet.specs.Scan.{stretch, DigitsOf}
-use Rattle.sheet.specs.Numeral.{numeral}
+use Rattle.spelling.specs.Scan.{stretch, DigitsOf}
+use Rattle.spelling.specs.Numeral.{numeral}
 use Rattle.sheet.specs.Forms.{numberForm}
-use Rattle.sheet.specs.Found.{Stands, LineFound}
-use Rattle.sheet.specs.declared.Digits.the-variants.{Number}
-use Rattle.sheet.proofs.Numeral.{same-number}
+use Rattle.sheet.specs.Found.{CursorAt, LineFound}
+use Rattle.spelling.specs.declared.Digits.the-variants.{Number}
+use Rattle.spelling.proofs.Numeral.{same-number}
 use Rattle.sheet.proofs.Forms.{number-clear}
 use Rattle.sheet.proofs.Say.{noted, passed-on, unsaid, accepted}
 use Rattle.sheet.proofs.line.number_line.Statement.{statement}
@@ -21,19 +21,19 @@ line-at-requires : tie.Need-line-at-requires
 line-at-requires c κs = search needs
 
 enum-known-f : tie.Need-enum-known-f
-enum-known-f c = search needs
+enum-known-f c = c .match .keys1
 
 enum-known-c : tie.Need-enum-known-c
-enum-known-c c = search needs
+enum-known-c c = c .match .keys2
 
 abbrev form : tie.Start → Form
-form s = numberForm (s .args .key .now) (numeral 10 (s .args .width)) (s .args .low) (s .args .high)
+form s = numberForm (s .args .key .now) (s .args .width) (s .args .low) (s .args .high)
 
 -- the line that was found, and the number that its value is
 abbrev entry : tie.After-known-told2 → tie.Start
 entry c = c .before .before .before .before .before .before
 
-stood : (c : tie.After-known-told2) → let a = entry c .args in Stands (a .key .now) (a .sheet .now) (a .at) (a .line) (c .before .c .given .0 .0)
+stood : (c : tie.After-known-told2) → let a = entry c .args in CursorAt (a .key .now) (a .sheet .now) (a .at) (a .line) (c .before .c .given .0 .0)
 stood c =
     let a = entry c .args in
     subst (LineFound (a .key .now) (a .sheet .now) (a .at) (a .line)) (c .before .c .given .1) (c .before .before .before .line-at .ensures)
@@ -42,10 +42,10 @@ number-in-requires : tie.Need-number-in-requires
 number-in-requires c κs = let s = stood c in (s .onward, omega (arith, s .within), omega arith, omega arith, entry c .pre .2)
 
 enum-told : tie.Need-enum-told
-enum-told c = search needs
+enum-told c = c .match2 .keys1
 
 enum-known-n : tie.Need-enum-known-n
-enum-known-n c = search needs
+enum-known-n c = c .match2 .keys2
 
 abbrev found : tie.After-known-told3 → tie.After-known-told2
 found c = c .before .before .before .before
@@ -68,7 +68,7 @@ only c m l e =
 bad : (c : tie.After-known-told2) → let s = entry c in
     ((m : ℕ) → (s .args .low ≤ m) × (m ≤ s .args .high) → value c ≡ numeral 10 (s .args .width) m → ⊥)
     → Refused (lineRows (form s) (s .args .sheet .now) (s .args .at)) 3 × (s .args .line ≡ s .args .line)
-bad c none = let s = entry c in (unsaid (form s) (s .args .sheet .now) (s .args .at) (s .args .line) tt (stood c) none, refl)
+bad c none = let s = entry c in (unsaid (form s) (s .args .sheet .now) (s .args .at) (s .args .line) (stood c) none, refl)
 
 returns : tie.Need-returns
 returns c =
@@ -82,7 +82,7 @@ returns-3 : tie.Need-returns-3
 returns-3 c =
     let s = c .before .before .before .before .before .before in
     let a = s .args in
-    passed-on (form s) (a .sheet .now) (a .at) (a .line) (λ c. c .number) (c .before .f .given .0 .0) tt
+    passed-on (form s) (a .sheet .now) (a .at) (a .line) (λ c. c .number) (c .before .f .given .0 .0)
     (subst (LineFound (a .key .now) (a .sheet .now) (a .at) (a .line)) (c .before .f .given .1) (c .before .before .before .line-at .ensures))
 
 returns-4 : tie.Need-returns-4

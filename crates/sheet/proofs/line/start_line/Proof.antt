@@ -1,5 +1,5 @@
 -- `sheet::line::start_line` meets its contract. Assumes nothing.
-use mathlib.Core.Path.{_≡_, refl, subst}
+use mathlib.Core.Path.{refl, subst}
 use mathlib.Core.List.{List}
 use Prim.Native.Nat.{ℕ}
 use native.Mathlib.Omega.{arith}
@@ -7,11 +7,10 @@ use borrow.Author.Needs.{needs}
 use Rattle.laws.specs.Text.{bytes}
 use Rattle.laws.proofs.Truth.{off-on}
 use Rattle.meaning.proofs.Refusal.{here}
-use Rattle.sheet.specs.Line.{Form, Says}
-use Rattle.sheet.specs.Scan.{stretch, DigitsOf}
+use Rattle.spelling.specs.Scan.{stretch, DigitsOf}
 use Rattle.sheet.specs.Forms.{startForm}
-use Rattle.sheet.specs.Found.{Stands, LineFound}
-use Rattle.sheet.specs.declared.Digits.the-variants.{Number}
+use Rattle.sheet.specs.Found.{CursorAt, LineFound}
+use Rattle.spelling.specs.declared.Digits.the-variants.{Number}
 use Rattle.sheet.proofs.Forms.{start-clear}
 use Rattle.sheet.proofs.Rows.{judged}
 use Rattle.sheet.proofs.Say.{noted, passed-on, unsaid, says, accepted}
@@ -25,10 +24,10 @@ line-at-requires : tie.Need-line-at-requires
 line-at-requires c κs = search needs
 
 enum-known-f : tie.Need-enum-known-f
-enum-known-f c = search needs
+enum-known-f c = c .match .keys1
 
 enum-known-c : tie.Need-enum-known-c
-enum-known-c c = search needs
+enum-known-c c = c .match .keys2
 
 -- the line that was found, and the number that its value is
 abbrev entry : tie.After-known-told2 → tie.Start
@@ -37,7 +36,7 @@ entry c = c .before .before .before .before .before .before
 abbrev value : tie.After-known-told2 → List ℕ
 value c = stretch (entry c .args .sheet .now) (c .before .c .given .0 .0 .start) (c .before .c .given .0 .0 .end)
 
-stood : (c : tie.After-known-told2) → let a = entry c .args in Stands (bytes "start=") (a .sheet .now) (a .at) (a .line) (c .before .c .given .0 .0)
+stood : (c : tie.After-known-told2) → let a = entry c .args in CursorAt (bytes "start=") (a .sheet .now) (a .at) (a .line) (c .before .c .given .0 .0)
 stood c =
     let a = entry c .args in
     subst (LineFound (bytes "start=") (a .sheet .now) (a .at) (a .line)) (c .before .c .given .1) (c .before .before .before .line-at .ensures)
@@ -46,10 +45,10 @@ number-in-requires : tie.Need-number-in-requires
 number-in-requires c κs = let s = stood c in (s .onward, omega (arith, s .within), omega arith, omega arith, omega arith)
 
 enum-told : tie.Need-enum-told
-enum-told c = search needs
+enum-told c = c .match2 .keys1
 
 enum-known-n : tie.Need-enum-known-n
-enum-known-n c = search needs
+enum-known-n c = c .match2 .keys2
 
 names-lacking-requires : tie.Need-names-lacking-requires
 names-lacking-requires c κs = search needs
@@ -67,21 +66,21 @@ returns c =
     let n = c .before .before .before .n .given .0 .0 in
     let it = says (startForm (s .fluents)) (s .sheet .now) (s .at) (s .line) (stood k) n (read (c .before .before) .0) (read (c .before .before) .1) in (
       judged (startForm (s .fluents)) (s .sheet .now) (s .at) n it
-          (here tt (record { said = n; says = it; fault = c .before .names-lacking .ensures .0 (c .if1 .taken) })),
+          (here (record { said = n; says = it; fault = c .before .names-lacking .ensures .0 (c .if1 .taken) })),
       refl,
     )
 
 returns-2 : tie.Need-returns-2
 returns-2 c =
     let a = c .before .before .before .before .before .before .args in
-    passed-on (startForm (a .fluents)) (a .sheet .now) (a .at) (a .line) (λ c. c .number) (c .before .f .given .0 .0) tt
+    passed-on (startForm (a .fluents)) (a .sheet .now) (a .at) (a .line) (λ c. c .number) (c .before .f .given .0 .0)
     (subst (LineFound (bytes "start=") (a .sheet .now) (a .at) (a .line)) (c .before .f .given .1) (c .before .before .before .line-at .ensures))
 
 returns-3 : tie.Need-returns-3
 returns-3 c =
     let k = c .before .before .before in
     let a = entry k .args in (
-      unsaid (startForm (a .fluents)) (a .sheet .now) (a .at) (a .line) tt (stood k)
+      unsaid (startForm (a .fluents)) (a .sheet .now) (a .at) (a .line) (stood k)
           (λ n r. subst (DigitsOf 16 8 (value k)) (c .enum-told .given .1) (c .before .before .number-in .ensures) n),
       refl,
     )

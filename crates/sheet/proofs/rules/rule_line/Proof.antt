@@ -1,13 +1,14 @@
 -- `sheet::rules::rule_line` meets its contract. Assumes nothing.
-use mathlib.Core.Path.{_≡_, refl, subst}
+use mathlib.Core.Path.{refl, subst}
 use mathlib.Core.Bool.{true}
 use mathlib.Core.List.{List}
 use Prim.Native.Nat.{ℕ}
 use native.Mathlib.Omega.{arith}
-use Rattle.rule.specs.Outcome.{kindOf, CheckedAs}
-use Rattle.sheet.specs.Scan.{stretch}
+use Rattle.theory.specs.Check.{Settled}
+use Rattle.rule.specs.Outcome.{kindOf, ruleRows}
+use Rattle.spelling.specs.Scan.{stretch}
 use Rattle.sheet.specs.Forms.{ruleForm}
-use Rattle.sheet.specs.Found.{Stands, LineFound}
+use Rattle.sheet.specs.Found.{CursorAt, LineFound}
 use Rattle.sheet.proofs.Say.{passed-on}
 use Rattle.sheet.proofs.RuleLine.{rule-refused, rule-fits}
 use borrow.Author.Needs.{needs}
@@ -18,10 +19,10 @@ line-at-requires : tie.Need-line-at-requires
 line-at-requires c κs = search needs
 
 enum-known-f : tie.Need-enum-known-f
-enum-known-f c = search needs
+enum-known-f c = c .match .keys1
 
 enum-known-c : tie.Need-enum-known-c
-enum-known-c c = search needs
+enum-known-c c = c .match .keys2
 
 -- the line that was found
 abbrev entry : tie.After-known-told2 → tie.Start
@@ -30,7 +31,7 @@ entry c = c .before .before .before .before .before .before
 abbrev text : tie.After-known-told2 → List ℕ
 text c = stretch (entry c .args .sheet .now) (c .before .c .given .0 .0 .start) (c .before .c .given .0 .0 .end)
 
-stood : (c : tie.After-known-told2) → let a = entry c .args in Stands (a .key .now) (a .sheet .now) (a .at) (a .line) (c .before .c .given .0 .0)
+stood : (c : tie.After-known-told2) → let a = entry c .args in CursorAt (a .key .now) (a .sheet .now) (a .at) (a .line) (c .before .c .given .0 .0)
 stood c =
     let a = entry c .args in
     subst (LineFound (a .key .now) (a .sheet .now) (a .at) (a .line)) (c .before .c .given .1) (c .before .before .before .line-at .ensures)
@@ -48,18 +49,17 @@ check-rule-requires : tie.Need-check-rule-requires
 check-rule-requires c κs = search needs
 
 enum-known-why : tie.Need-enum-known-why
-enum-known-why c = search needs
+enum-known-why c = c .match2 .keys1
 
 enum-told : tie.Need-enum-told
-enum-told c = search needs
+enum-told c = c .match2 .keys2
 
 returns : tie.Need-returns
 returns c =
     let a = c .before .before .before .before .before .before .args in
-    passed-on (ruleForm (a .key .now) (kindOf (a .kind)) (a .fluents) (a .actions)) (a .sheet .now) (a .at) (a .line)
+    passed-on (ruleForm (a .key .now) (kindOf (a .kind)) (a .counts)) (a .sheet .now) (a .at) (a .line)
     (λ c. stretch (a .sheet .now) (c .start) (c .end))
     (c .before .f .given .0 .0)
-    tt
     (subst (LineFound (a .key .now) (a .sheet .now) (a .at) (a .line)) (c .before .f .given .1) (c .before .before .before .line-at .ensures))
 
 returns-2 : tie.Need-returns-2
@@ -67,15 +67,15 @@ returns-2 c =
     let k = c .before .before .before .before .before in
     let a = entry k .args in
     let pre = entry k .pre in
-    let told = subst (CheckedAs true (kindOf (a .kind)) (text k) (a .fluents) (a .actions)) (c .before .why .given .1) (c .before .before .before .check-rule .ensures) in
-    (rule-refused (a .key .now) (kindOf (a .kind)) (a .fluents) (a .actions) (a .sheet .now) (a .at) (a .line) _ (stood k) (pre .1) (pre .2) (pre .3) told, refl)
+    let told = subst (Settled (ruleRows true (kindOf (a .kind)) (text k) (a .counts))) (c .before .why .given .1) (c .before .before .before .check-rule .ensures) in
+    (rule-refused (a .key .now) (kindOf (a .kind)) (a .counts) (a .sheet .now) (a .at) (a .line) _ (stood k) (pre .1) told, refl)
 
 returns-3 : tie.Need-returns-3
 returns-3 c =
     let k = c .before .before .before .before in
     let a = entry k .args in
-    let told = subst (CheckedAs true (kindOf (a .kind)) (text k) (a .fluents) (a .actions)) (c .enum-told .given .1) (c .before .before .check-rule .ensures) in
-    rule-fits (a .key .now) (kindOf (a .kind)) (a .fluents) (a .actions) (a .sheet .now) (a .at) (a .line) _ (stood k) (told .accepted)
+    let told = subst (Settled (ruleRows true (kindOf (a .kind)) (text k) (a .counts))) (c .enum-told .given .1) (c .before .before .check-rule .ensures) in
+    rule-fits (a .key .now) (kindOf (a .kind)) (a .counts) (a .sheet .now) (a .at) (a .line) _ (stood k) told
 
 pub rule-line-spec : {M : Type 1} → statement M
 rule-line-spec =

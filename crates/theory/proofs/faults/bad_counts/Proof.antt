@@ -15,7 +15,7 @@ returns-2 c = (λ _. inr (inl (omega arith)), λ _. refl)
 
 returns-3 : tie.Need-returns-3
 returns-3 c =
-    let actions = c .before .before .args .actions in (
+    let actions = c .before .before .args .counts .actions in (
       λ e. inr (inr (ltb-true actionLimit actions e)),
       ⊎-elim (λ h. absurd (omega arith)) (⊎-elim (λ h. absurd (omega arith)) (lt-ltb actionLimit actions)),
     )

@@ -5,8 +5,8 @@ use native.Mathlib.Omega.{arith}
 use borrow.Author.Needs.{needs}
 use Rattle.laws.proofs.Truth.{off-on}
 use Rattle.meaning.specs.Limits.{fluentLimit, actionLimit}
-use Rattle.meaning.specs.Refusal.{BadCounts}
 use Rattle.meaning.proofs.Refusal.{here, past, passes, accepts}
+use Rattle.theory.specs.Rows.{CountsOut}
 use Rattle.theory.proofs.faults.check_theory.Statement.{statement}
 use Rattle.theory.proofs.faults.check_theory.Tie as tie
 
@@ -14,26 +14,26 @@ bad-counts-requires : tie.Need-bad-counts-requires
 bad-counts-requires c κs = search needs
 
 returns : tie.Need-returns
-returns c = here tt (inl (c .before .bad-counts .ensures .0 (c .if1 .taken)))
+returns c = here (inl (c .before .bad-counts .ensures .0 (c .if1 .taken)))
 
 -- the counts are good, past the first test
-good : (c : tie.Else1) → BadCounts (c .before .before .before .args .fluents) (c .before .before .before .args .actions) → ⊥
+good : (c : tie.Else1) → CountsOut (c .before .before .before .before .args .s .counts) → ⊥
 good c h = off-on (c .if1 .left) (c .before .bad-counts .ensures .1 h)
 
 mul-if2 : tie.Need-mul-if2
-mul-if2 c = let few : ¬ (actionLimit < c .before .before .before .args .actions) = λ h. good c (inr (inr h)) in omega arith
+mul-if2 c = let few : ¬ (actionLimit < c .before .before .before .before .args .s .counts .actions) = λ h. good c (inr (inr h)) in omega arith
 
 returns-2 : tie.Need-returns-2
-returns-2 c = here tt (inr (λ e. omega arith))
+returns-2 c = here (inr (λ e. omega arith))
 
 bad-masks-requires : tie.Need-bad-masks-requires
 bad-masks-requires c κs =
-    let few : ¬ (fluentLimit < c .before .before .before .before .args .fluents) = λ h. good (c .before) (inl h) in omega arith
+    let few : ¬ (fluentLimit < c .before .before .before .before .before .args .s .counts .fluents) = λ h. good (c .before) (inl h) in omega arith
 
 returns-3 : tie.Need-returns-3
 returns-3 c =
     past (⊎-elim (good (c .before .before .before)) (λ bad. bad (c .before .before .if2 .left)))
-    (here tt (c .before .bad-masks .ensures .0 (c .if3 .taken)))
+    (here (c .before .bad-masks .ensures .0 (c .if3 .taken)))
 
 returns-4 : tie.Need-returns-4
 returns-4 c =

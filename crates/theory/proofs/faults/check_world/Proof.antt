@@ -1,12 +1,13 @@
 -- `theory::faults::check_world` meets its contract: the theory's number stands, and where it has none the log decides.
 use mathlib.Core.Path.{subst}
-use mathlib.Core.List.{List, [], _∷_}
+use mathlib.Core.List.{List}
 use borrow.Author.Needs.{needs}
 use denote.Ref.{now}
 use Rattle.laws.proofs.Truth.{off-on}
-use Rattle.meaning.specs.Refusal.{Row, _when_, BadLog}
+use Rattle.meaning.specs.Refusal.{Row}
 use Rattle.meaning.proofs.Refusal.{here, passes, accepts, refused-first, refused-second, accepted-both}
-use Rattle.theory.specs.Rows.{theoryRows}
+use Rattle.theory.specs.Subject.{subjectOf}
+use Rattle.theory.specs.Rows.{theoryRows, logRows}
 use Rattle.theory.specs.Check.{Settled}
 use Rattle.theory.proofs.faults.check_world.Statement.{statement}
 use Rattle.theory.proofs.faults.check_world.Tie as tie
@@ -25,29 +26,29 @@ bad-log-requires c κs = search needs
 
 -- the rows of the theory and of the log, at the arguments
 abbrev first : tie.Start → List {1} Row
-first c = theoryRows (c .args .fluents) (c .args .actions) (c .args .start) (now (c .args .masks))
+first c = theoryRows (c .args .s) (now (c .args .masks))
 
 abbrev second : tie.Start → List {1} Row
-second c = (5 when BadLog (c .args .actions) (now (c .args .log))) ∷ []
+second c = logRows (subjectOf (c .args .s) (now (c .args .masks)) (now (c .args .log)))
 
 returns : tie.Need-returns
 returns c =
-    let start = c .before .before .before .before .before .before .before in
-    let checked = c .before .before .before .before .check-theory in
-    refused-second (first start) (second start) (subst (Settled (first start)) (c .before .before .enum-told .given .1) (checked .ensures))
-    (here tt (c .before .bad-log .ensures .0 (c .if1 .taken)))
+    let start = c .before .before .before .before .before .before .before .before in
+    let checked = c .before .before .before .before .before .check-theory in
+    refused-second (first start) (second start) (subst (Settled (first start)) (c .before .before .before .enum-told .given .1) (checked .ensures))
+    (here (c .before .bad-log .ensures .0 (c .if1 .taken)))
 
 returns-2 : tie.Need-returns-2
 returns-2 c =
     let start = c .before .before .before .before .before .before in
     let checked = c .before .before .before .check-theory in
-    refused-first (first start) (second start) 4 tt tt (subst (Settled (first start)) (c .before .r .given .1) (checked .ensures))
+    refused-first (first start) (second start) (subst (Settled (first start)) (c .before .r .given .1) (checked .ensures))
 
 returns-3 : tie.Need-returns-3
 returns-3 c =
-    let start = c .before .before .before .before .before .before .before in
-    let checked = c .before .before .before .before .check-theory in
-    accepted-both (first start) (second start) (subst (Settled (first start)) (c .before .before .enum-told .given .1) (checked .ensures))
+    let start = c .before .before .before .before .before .before .before .before in
+    let checked = c .before .before .before .before .before .check-theory in
+    accepted-both (first start) (second start) (subst (Settled (first start)) (c .before .before .before .enum-told .given .1) (checked .ensures))
     (passes (λ h. off-on (c .if1 .left) (c .before .bad-log .ensures .1 h)) accepts)
 
 pub check-world-spec : {M : Type 1} → statement M

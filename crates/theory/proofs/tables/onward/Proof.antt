@@ -1,6 +1,5 @@
 -- `theory::tables::onward` meets its contract.
 use borrow.Author.Needs.{needs}
-use native.Mathlib.Omega.{arith}
 use Rattle.theory.proofs.Marks.{from-iff}
 use Rattle.theory.proofs.tables.onward.Statement.{statement}
 use Rattle.theory.proofs.tables.onward.Tie as tie

@@ -1,13 +1,11 @@
 -- `theory::tables::turn` meets its contract. The loop's invariant: what is turned so far are the fluents by which the rest differs from what changed.
-use mathlib.Core.Path.{_≡_}
-use Prim.Native.Nat.{ℕ, _-_, _^_, _<_}
+use Prim.Native.Nat.{_-_, _^_, _<_}
 use native.Mathlib.Omega.{arith}
 use denote.Ref.{now}
 use native.Mathlib.Nat.{mod-lt}
 use lib.Bits.{bitXor, xor-lt}
 use lib.Pow.{pow-pos}
 use lib.Count.{trailingZeros}
-use lib.ListN.{length}
 use Rattle.laws.proofs.First.{lowest-within, lowest-later}
 use Rattle.meaning.specs.Limits.{fluentLimit}
 use Rattle.theory.specs.Tables.{Reversed}
@@ -16,32 +14,35 @@ use Rattle.theory.proofs.tables.turn.Statement.{statement}
 use Rattle.theory.proofs.tables.turn.Tie as tie
 
 abbrev Inv-loop : tie.InvT-loop
-Inv-loop lit₀ changed places rest₀ lit rest = (rest < 2 ^ fluentLimit) × Reversed lit₀ lit (bitXor changed rest) places
+Inv-loop rows₀ changed places rest₀ rows rest = (rest < 2 ^ fluentLimit) × Reversed rows₀ rows (bitXor changed rest) places
 
 abbrev μ-loop : tie.MeasureT-loop
-μ-loop lit₀ changed places rest₀ lit rest = fluentLimit - trailingZeros fluentLimit rest
+μ-loop rows₀ changed places rest₀ rows rest = fluentLimit - trailingZeros fluentLimit rest
 
 loop-holds : tie.Need-loop-holds Inv-loop μ-loop
-loop-holds c = (c .fits .changed .fits, turn-none (now (c .args .lit)) (c .args .changed) (c .args .places))
+loop-holds c = (c .fits .changed .fits, turn-none (now (c .args .rows)) (c .args .changed) (c .args .places))
 
--- there is a word for the lowest fluent that is left
+-- there is a row for the lowest fluent that is left
 room : (c : tie.In-loop Inv-loop μ-loop) → trailingZeros fluentLimit (c .before .loop .rest) < fluentLimit
 room c = lowest-within fluentLimit (c .before .loop .inv .0) (c .loop-test .taken)
 
 cast-i : tie.Need-cast-i Inv-loop μ-loop
 cast-i c = omega (arith, room c)
 
+add-row : tie.Need-add-row Inv-loop μ-loop
+add-row c = omega (arith, room c)
+
 mul-old : tie.Need-mul-old Inv-loop μ-loop
 mul-old c = omega (arith, room c)
 
 element-copy-out-old : tie.Need-element-copy-out-old Inv-loop μ-loop
-element-copy-out-old c = room c
+element-copy-out-old c = omega (arith, room c)
 
-mul-lit : tie.Need-mul-lit Inv-loop μ-loop
-mul-lit c = omega (arith, room (c .before))
+mul-rows : tie.Need-mul-rows Inv-loop μ-loop
+mul-rows c = omega (arith, room (c .before))
 
-element-write-lit : tie.Need-element-write-lit Inv-loop μ-loop
-element-write-lit c = room (c .before)
+element-write-rows : tie.Need-element-write-rows Inv-loop μ-loop
+element-write-rows c = omega (arith, room (c .before))
 
 cast-one : tie.Need-cast-one Inv-loop μ-loop
 cast-one c = omega (arith, room (c .before))
@@ -58,7 +59,7 @@ loop-again c =
     let start = c .before .before .before in
     let low = room (c .before) in (
       xor-lt fluentLimit (loop .rest) _ (loop .inv .0) (mod-lt _ (pow-pos fluentLimit)),
-      turn-more (start .args .changed) (loop .rest) (omega (arith, low, start .pre)) low (loop .inv .1),
+      turn-more (start .args .changed) (loop .rest) (start .pre) low (loop .inv .1),
     )
 
 returns : tie.Need-returns Inv-loop μ-loop
@@ -72,10 +73,11 @@ turn-spec =
     μ-loop
     loop-holds
     cast-i
+    add-row
     mul-old
     element-copy-out-old
-    mul-lit
-    element-write-lit
+    mul-rows
+    element-write-rows
     cast-one
     shl-one
     loop-less

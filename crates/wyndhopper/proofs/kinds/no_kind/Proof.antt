@@ -9,10 +9,10 @@ bad-counts-requires : tie.Need-bad-counts-requires
 bad-counts-requires c κs = search needs
 
 returns : tie.Need-returns
-returns c = here tt (c .before .bad-counts .ensures .0 (c .if1 .taken))
+returns c = here (c .before .bad-counts .ensures .0 (c .if1 .taken))
 
 returns-2 : tie.Need-returns-2
-returns-2 c = past (λ h. off-on (c .if1 .left) (c .before .bad-counts .ensures .1 h)) (here tt tt)
+returns-2 c = past (λ h. off-on (c .if1 .left) (c .before .bad-counts .ensures .1 h)) (here tt)
 
 pub no-kind-spec : {M : Type 1} → statement M
 no-kind-spec = tie.close (tie.spec bad-counts-requires returns returns-2)

@@ -4,7 +4,7 @@ use mathlib.Core.List.{List}
 use Prim.Native.Nat.{ℕ}
 use denote.Ref.{now}
 use Rattle.rule.specs.Outcome.{kindOf}
-use Rattle.normal.specs.Answer.{numberIn, countIn, NormalOutcome}
+use Rattle.normal.specs.Answer.{numberGiven, countGiven, NormalOutcome}
 use Rattle.normal.specs.declared.NormalAnswer.{NormalAnswer}
 use borrow.Author.Needs.{needs}
 use Rattle.wyndhopper.proofs.kinds.normal_as.Statement.{statement}
@@ -27,16 +27,16 @@ same-length c = search needs
 
 -- what the contract says of a number, a count and the output, at the arguments, and what the call ensures of its answer
 abbrev Told : tie.Start → ℕ → ℕ → List ℕ → Type 0
-Told c = NormalOutcome (kindOf (c .args .kind)) (now (c .args .text)) (c .args .fluents) (c .args .actions) (now (c .args .out))
+Told c = NormalOutcome (kindOf (c .args .kind)) (now (c .args .text)) (c .args .counts) (now (c .args .out))
 
 abbrev Answers : tie.Start → List ℕ → NormalAnswer → Type 0
-Answers c after a = Told c (numberIn a) (countIn a) after
+Answers c after a = Told c (numberGiven a) (countGiven a) after
 
 returns : tie.Need-returns
 returns c =
     let start = c .before .before .before .before .before .before .before .before .before .before in
     let call = c .before .before .before .before .before .before .normal in
-    let after = call .last .1 .1 .1 .1 .0 in
+    let after = call .last .1 .1 .1 .0 in
     let told = subst (Answers start after) (c .before .before .why .given .1) (call .ensures) in
     subst⁻¹ (λ (n : ℕ). Told start n 0 after) (c .number .ensures) told
 
@@ -46,7 +46,7 @@ same-length-2 c = search needs
 returns-2 : tie.Need-returns-2
 returns-2 c =
     let call = c .before .before .before .before .before .normal in
-    subst (Answers (c .before .before .before .before .before .before .before .before .before) (call .last .1 .1 .1 .1 .0)) (c .before .n .given .1) (call .ensures)
+    subst (Answers (c .before .before .before .before .before .before .before .before .before) (call .last .1 .1 .1 .0)) (c .before .n .given .1) (call .ensures)
 
 pub normal-as-spec : {M : Type 1} → statement M
 normal-as-spec =

@@ -8,10 +8,10 @@ read-rule-requires : tie.Need-read-rule-requires
 read-rule-requires c κs = search needs
 
 sub-rest : tie.Need-sub-rest
-sub-rest c = rest-of (c .read-rule .ensures) .0
+sub-rest c = rest-of _ _ _ _ _ (c .read-rule .ensures) .0
 
 returns : tie.Need-returns
-returns c = rest-of (c .read-rule .ensures) .1
+returns c = rest-of _ _ _ _ _ (c .read-rule .ensures) .1
 
 pub read-as-spec : {M : Type 1} → statement M
 read-as-spec = tie.close (tie.spec read-rule-requires sub-rest returns)

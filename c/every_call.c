@@ -1,0 +1,158 @@
+/* Every call once with an answer and once with a refusal, over three actions: print 1, print 2 (needs label 1), void both. It prints what
+ * rust/examples/every_call.rs prints. */
+#include "wyndhopper.h"
+#include <stdio.h>
+#include <string.h>
+
+static const uint8_t *bytes(const char *text) { return (const uint8_t *)text; }
+
+static void told(const char *call, uint8_t refused) {
+    printf("%s: %s\n", call, wyh_refusal_sentence(refused));
+}
+
+static void states(const struct wyh_job *job) {
+    uint32_t state;
+    uint8_t refused = wyh_job_state(job, 2, &state);
+    told("state at 2", refused);
+    printf("  %08lx\n", (unsigned long)state);
+    refused = wyh_job_state(job, 5, &state);
+    told("state at 5", refused);
+    printf("  %08lx\n", (unsigned long)state);
+}
+
+static void reach(const struct wyh_job *job, const char *walk, size_t then) {
+    struct wyh_reached reached;
+    uint8_t refused = wyh_job_reach(job, bytes(walk), strlen(walk), then, job->log_len, &reached);
+    told("reach", refused);
+    printf("  set %lx, count %lu, earliest %lu\n", (unsigned long)reached.set[0], (unsigned long)reached.count, (unsigned long)reached.earliest);
+}
+
+static void verdict(const struct wyh_job *job, const char *test) {
+    uint8_t yes;
+    uint8_t refused = wyh_job_verdict(job, bytes(test), strlen(test), job->log_len, job->log_len, &yes);
+    told("verdict", refused);
+    printf("  %s\n", yes ? "yes" : "no");
+}
+
+static void possible(const struct wyh_job *job, size_t action, size_t position) {
+    uint8_t yes;
+    uint8_t refused = wyh_job_possible(job, action, position, &yes);
+    told("possible", refused);
+    printf("  %s\n", yes ? "yes" : "no");
+}
+
+static void next(const struct wyh_job *job, const char *run) {
+    uint64_t actions;
+    uint8_t refused = wyh_job_next(job, bytes(run), strlen(run), &actions);
+    told("next", refused);
+    printf("  %lx\n", (unsigned long)actions);
+}
+
+static void finish(const struct wyh_job *job, const char *run, size_t more) {
+    uint8_t left[WYH_FINISH_ROOM];
+    size_t count, k;
+    uint8_t refused = wyh_job_finish(job, bytes(run), strlen(run), more, left, sizeof left, &count);
+    told("finish", refused);
+    printf("  %lu left:", (unsigned long)count);
+    for (k = 0; k < count; k++) printf(" %02d", left[k]);
+    printf("\n");
+}
+
+static void read_rule(const struct wyh_job *job, uint8_t kind, const char *text) {
+    size_t rest;
+    uint8_t refused = wyh_job_read_rule(job, kind, bytes(text), strlen(text), &rest);
+    told("read_rule", refused);
+    printf("  unread: \"%s\"\n", text + rest);
+}
+
+static void normal(const struct wyh_job *job, const char *walk, size_t room) {
+    uint8_t form[WYH_RULE_ROOM];
+    size_t count;
+    uint8_t refused = wyh_job_normal(job, WYH_WALK, bytes(walk), strlen(walk), form, room, &count);
+    told("normal", refused);
+    printf("  \"%.*s\"\n", (int)count, (const char *)form);
+}
+
+static void read_sheet(const char *text) {
+    uint32_t masks[WYH_MASKS_ROOM];
+    uint8_t log[WYH_LOG_ROOM];
+    struct wyh_sheet sheet;
+    uint8_t refused = wyh_job_read_sheet(bytes(text), strlen(text), masks, log, &sheet);
+    told("read_sheet", refused);
+    printf("  line %lu, %lu fluents, %lu actions, %lu masks, %lu steps\n", (unsigned long)sheet.line, (unsigned long)sheet.job.fluents,
+           (unsigned long)sheet.job.actions, (unsigned long)sheet.job.masks_len, (unsigned long)sheet.job.log_len);
+    printf("  ask \"%.*s\", run \"%.*s\", more %lu\n", (int)sheet.ask_len, (const char *)(sheet.ask ? sheet.ask : bytes("")), (int)sheet.run_len,
+           (const char *)(sheet.run ? sheet.run : bytes("")), (unsigned long)sheet.more);
+    if (refused) return;
+    finish(&sheet.job, ";a00;a01;a02;a00a01", sheet.more);
+}
+
+static void answer(const char *sheet) {
+    uint8_t out[WYH_ANSWER_ROOM];
+    size_t count = wyh_answer(bytes(sheet), strlen(sheet), out);
+    printf("answer\n%.*s", (int)count, (const char *)out);
+}
+
+/* Where a length is 0, the pointer may be NULL. */
+static void nothing(const struct wyh_job *job) {
+    const struct wyh_job empty = WYH_JOB_EMPTY;
+    struct wyh_reached reached;
+    struct wyh_sheet sheet;
+    uint32_t state, masks[WYH_MASKS_ROOM];
+    uint64_t set;
+    uint8_t yes, log[WYH_LOG_ROOM];
+    size_t count;
+    told("no theory", wyh_job_state(&empty, 0, &state));
+    told("no walk", wyh_job_reach(job, NULL, 0, 0, 0, &reached));
+    told("no test", wyh_job_verdict(job, NULL, 0, 0, 0, &yes));
+    told("no run", wyh_job_next(job, NULL, 0, &set));
+    told("no sheet", wyh_job_read_sheet(NULL, 0, masks, log, &sheet));
+    told("no output for no action", wyh_job_finish(job, bytes("*n"), 2, 0, NULL, 0, &count));
+    told("no output for one action", wyh_job_finish(job, bytes("*n"), 2, 1, NULL, 0, &count));
+    told("no rule to read", wyh_job_read_rule(job, WYH_TEST, NULL, 0, &count));
+    told("no output for a normal form", wyh_job_normal(job, WYH_WALK, bytes("n"), 1, NULL, 0, &count));
+}
+
+static const char *const sheet =
+    "sheet=1\nfluents=02\nactions=03\nstart=00000000\nact=00000000,00000000,00000001,00000000\nact=00000001,00000000,00000002,00000000\n"
+    "act=00000000,00000000,00000000,00000003\nlog=00010200\nask=<-;a00*n!<;*na011\nrun=;a00;a01;a02;a00a01\nmore=2\n";
+
+int main(void) {
+    const uint32_t masks[12] = {0, 0, 1, 0, 1, 0, 2, 0, 0, 0, 0, 3};
+    const uint8_t log[4] = {0, 1, 2, 0};
+    struct wyh_job job = WYH_JOB_EMPTY;
+    job.fluents = 2;
+    job.actions = 3;
+    job.masks = masks;
+    job.masks_len = 12;
+    printf("version %s\n", WYH_VERSION);
+    /* The log is still empty: its pointer is NULL. */
+    verdict(&job, "f00");
+    job.log = log;
+    job.log_len = 4;
+    states(&job);
+    reach(&job, "*n", 2);
+    reach(&job, "a01", 0);
+    reach(&job, "a03", 0);
+    verdict(&job, "<-;a00*n!<;*na011");
+    verdict(&job, "");
+    possible(&job, 1, 4);
+    possible(&job, 1, 0);
+    possible(&job, 3, 0);
+    next(&job, ";a00;a01;a02;a00|a01a02");
+    next(&job, "*n");
+    next(&job, "r00");
+    finish(&job, ";a00;a01;a02;a00a01", 2);
+    finish(&job, ";a00;a01;a02;a00a01", 0);
+    finish(&job, "-a00", 2);
+    read_rule(&job, WYH_TEST, "f00rest");
+    read_rule(&job, WYH_RUN, "u");
+    normal(&job, "-;a00*n", WYH_RULE_ROOM);
+    normal(&job, "-;a00*n", 5);
+    nothing(&job);
+    read_sheet(sheet);
+    read_sheet("sheet=0\n");
+    answer(sheet);
+    answer("sheet=0\n");
+    return 0;
+}

@@ -1,0 +1,19 @@
+// The versions of the sheet: a row for each.
+ghost use mathlib.Core.Path.{_≡_};
+ghost use Rattle.sheet.specs.Versions.{versionOf};
+use crate::Version;
+use positions::PositionSet;
+use theory::STRIDE;
+
+// The newest version that there is.
+pub(crate) const NEWEST: u32 = 1;
+
+// The row of a version's number.
+pub(crate) fn version_of(number: u32) -> Version
+    ensures { λ r. ⌜ r ≡ versionOf number ⌝ }
+{
+    Version {
+        masks: STRIDE,
+        log: PositionSet::LOG_LIMIT,
+    }
+}

@@ -1,0 +1,4 @@
+pub mod Numeral
+pub mod Decimal
+pub mod Scan
+pub mod Wrote

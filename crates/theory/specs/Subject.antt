@@ -1,0 +1,45 @@
+-- What a library call is asked of: the numbers that it is given by value, its mask table and its log; and the meaning's world of it. The mask table is one flat
+-- list, four masks an action in the order need, ban, put, drop. Knows the call's arguments and the meaning's World, and no code.
+use mathlib.Core.List.{List}
+use Prim.Native.Nat.{ℕ, _+_, _*_, _≤_, _<_}
+use lib.ListN.{length, getD}
+use Rattle.meaning.specs.Limits.{actionLimit, logLimit}
+use Rattle.meaning.specs.Theory.{Masks, World, masksOf, stride}
+use Rattle.theory.specs.declared.Counts.{Counts}
+use Rattle.theory.specs.declared.Setting.{Setting}
+
+abbrev pub settingOf : ℕ → ℕ → ℕ → Setting
+settingOf fluents actions start = record { counts = record { fluents = fluents; actions = actions }; start = start }
+
+-- A later request that varies what a call is asked of adds a field to Setting, or one here.
+pub record Subject : Type 0 where
+  pub setting : Setting
+  pub masks : List ℕ
+  pub log : List ℕ
+
+abbrev pub subjectOf : Setting → List ℕ → List ℕ → Subject
+subjectOf setting masks log = record { setting = setting; masks = masks; log = log }
+
+abbrev pub countsOf : Subject → Counts
+countsOf s = s .setting .counts
+
+-- action a of the table; one that the table lacks has empty masks
+abbrev pub tableMasks : List ℕ → ℕ → Masks
+tableMasks masks a =
+    masksOf (getD masks (stride * a) 0) (getD masks (stride * a + 1) 0) (getD masks (stride * a + 2) 0) (getD masks (stride * a + 3) 0)
+
+abbrev pub worldOf : Subject → World
+worldOf s =
+    record {
+      fluents = countsOf s .fluents;
+      actions = countsOf s .actions;
+      masks = tableMasks (s .masks);
+      start = s .setting .start;
+      log = s .log;
+    }
+
+-- What a log needs to be gone through: it is short enough, its steps are actions, and the table has their masks. Every checked world has such a log.
+pub record Readable (masks log : List ℕ) : Type 0 where
+  pub short : length log ≤ logLimit
+  pub known : (k : ℕ) → k < length log → getD log k 0 < actionLimit
+  pub covered : (k : ℕ) → k < length log → stride * getD log k 0 + stride ≤ length masks

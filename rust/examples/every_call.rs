@@ -1,0 +1,135 @@
+//! Every call once with an answer and once with a refusal, over three actions: print 1, print 2 (needs label 1), void both. It prints what
+//! c/every_call.c prints.
+use wyndhopper::{Job, Kind, Refusal, Sheet, SheetRoom};
+
+fn told<T>(call: &str, answer: &Result<T, Refusal>) {
+    match answer {
+        Ok(_) => println!("{call}: not refused"),
+        Err(refusal) => println!("{call}: {refusal}"),
+    }
+}
+
+fn states(job: &Job) {
+    for position in [2, 5] {
+        let answer = job.state(position);
+        told(&format!("state at {position}"), &answer);
+        println!("  {:08x}", answer.unwrap_or(0));
+    }
+}
+
+fn reach(job: &Job, walk: &str, then: usize) {
+    let answer = job.reach(walk.as_bytes(), then, job.log().len());
+    told("reach", &answer);
+    let (set, count, earliest) = answer.map_or((0, 0, wyndhopper::NO_POSITION), |r| (r.set[0], r.count, r.earliest));
+    println!("  set {set:x}, count {count}, earliest {earliest}");
+}
+
+fn verdict(job: &Job, test: &str) {
+    let end = job.log().len();
+    let answer = job.verdict(test.as_bytes(), end, end);
+    told("verdict", &answer);
+    println!("  {}", if answer == Ok(true) { "yes" } else { "no" });
+}
+
+fn possible(job: &Job, action: usize, position: usize) {
+    let answer = job.possible(action, position);
+    told("possible", &answer);
+    println!("  {}", if answer == Ok(true) { "yes" } else { "no" });
+}
+
+fn next(job: &Job, run: &str) {
+    let answer = job.next(run.as_bytes());
+    told("next", &answer);
+    println!("  {:x}", answer.unwrap_or(0));
+}
+
+fn finish(job: &Job, run: &str, more: usize) {
+    let mut left = [0; wyndhopper::FINISH_ROOM];
+    let answer = job.finish(run.as_bytes(), more, &mut left);
+    told("finish", &answer);
+    let count = answer.unwrap_or(0);
+    let actions: String = left[..count].iter().map(|a| format!(" {a:02}")).collect();
+    println!("  {count} left:{actions}");
+}
+
+fn read_rule(job: &Job, kind: Kind, text: &str) {
+    let answer = job.read_rule(kind, text.as_bytes());
+    told("read_rule", &answer);
+    println!("  unread: \"{}\"", String::from_utf8_lossy(answer.unwrap_or(b"")));
+}
+
+fn normal(job: &Job, walk: &str, room: usize) {
+    let mut form = [0; wyndhopper::RULE_ROOM];
+    let answer = job.normal(Kind::Walk, walk.as_bytes(), &mut form[..room]);
+    told("normal", &answer);
+    println!("  \"{}\"", String::from_utf8_lossy(&form[..answer.unwrap_or(0)]));
+}
+
+fn read_sheet(text: &str) {
+    let mut room = SheetRoom::new();
+    let answer = Sheet::read(text.as_bytes(), &mut room);
+    told("read_sheet", &answer.map_err(|fault| fault.refusal));
+    let Ok(sheet) = answer else {
+        println!("  line {}, 0 fluents, 0 actions, 0 masks, 0 steps", answer.unwrap_err().line);
+        println!("  ask \"\", run \"\", more 0");
+        return;
+    };
+    let job = sheet.job;
+    println!("  line 0, {} fluents, {} actions, {} masks, {} steps", job.fluents(), job.actions(), job.masks().len(), job.log().len());
+    println!("  ask \"{}\", run \"{}\", more {}", String::from_utf8_lossy(sheet.ask), String::from_utf8_lossy(sheet.run), sheet.more);
+    finish(&job, ";a00;a01;a02;a00a01", sheet.more);
+}
+
+fn answer(sheet: &str) {
+    let mut out = [0; wyndhopper::ANSWER_ROOM];
+    let count = wyndhopper::answer(sheet.as_bytes(), &mut out);
+    print!("answer\n{}", String::from_utf8_lossy(&out[..count]));
+}
+
+/// Nothing given, nothing lent.
+fn nothing(job: &Job) {
+    told("no theory", &Job::new(0, 0, &[]).state(0));
+    told("no walk", &job.reach(b"", 0, 0));
+    told("no test", &job.verdict(b"", 0, 0));
+    told("no run", &job.next(b""));
+    told("no sheet", &Sheet::read(b"", &mut SheetRoom::new()).map(|s| s.more).map_err(|fault| fault.refusal));
+    told("no output for no action", &job.finish(b"*n", 0, &mut []));
+    told("no output for one action", &job.finish(b"*n", 1, &mut []));
+    told("no rule to read", &job.read_rule(Kind::Test, b""));
+    told("no output for a normal form", &job.normal(Kind::Walk, b"n", &mut []));
+}
+
+const SHEET: &str = "sheet=1\nfluents=02\nactions=03\nstart=00000000\nact=00000000,00000000,00000001,00000000\nact=00000001,00000000,00000002,00000000\n\
+    act=00000000,00000000,00000000,00000003\nlog=00010200\nask=<-;a00*n!<;*na011\nrun=;a00;a01;a02;a00a01\nmore=2\n";
+
+fn main() {
+    let masks = [0, 0, 1, 0, 1, 0, 2, 0, 0, 0, 0, 3];
+    println!("version {}", wyndhopper::VERSION);
+    let empty = Job::new(2, 3, &masks);
+    verdict(&empty, "f00");
+    let job = empty.with_log(&[0, 1, 2, 0]);
+    states(&job);
+    reach(&job, "*n", 2);
+    reach(&job, "a01", 0);
+    reach(&job, "a03", 0);
+    verdict(&job, "<-;a00*n!<;*na011");
+    verdict(&job, "");
+    possible(&job, 1, 4);
+    possible(&job, 1, 0);
+    possible(&job, 3, 0);
+    next(&job, ";a00;a01;a02;a00|a01a02");
+    next(&job, "*n");
+    next(&job, "r00");
+    finish(&job, ";a00;a01;a02;a00a01", 2);
+    finish(&job, ";a00;a01;a02;a00a01", 0);
+    finish(&job, "-a00", 2);
+    read_rule(&job, Kind::Test, "f00rest");
+    read_rule(&job, Kind::Run, "u");
+    normal(&job, "-;a00*n", wyndhopper::RULE_ROOM);
+    normal(&job, "-;a00*n", 5);
+    nothing(&job);
+    read_sheet(SHEET);
+    read_sheet("sheet=0\n");
+    answer(SHEET);
+    answer("sheet=0\n");
+}

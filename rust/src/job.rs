@@ -1,0 +1,230 @@
+//! The calls over a job: a theory and its log.
+use crate::{raw, Kind, Refusal};
+
+/// How many words of 64 positions a set has, lowest positions first.
+pub const SET_WORDS: usize = 1;
+
+/// The earliest position of an empty set.
+pub const NO_POSITION: usize = 64;
+
+/// The longest normal form.
+pub const RULE_ROOM: usize = 255;
+
+/// The longest finishing sequence.
+pub const FINISH_ROOM: usize = 6;
+
+/// A theory with a job's log. It is made by [`Job::new`], so that what later versions add breaks no program.
+///
+/// The mask table has four masks an action: need, ban, put, drop.
+#[derive(Clone, Copy, Debug, PartialEq, Eq)]
+pub struct Job<'a> {
+    fluents: usize,
+    actions: usize,
+    start: u32,
+    masks: &'a [u32],
+    log: &'a [u8],
+}
+
+/// The positions that a walk leads to: the set, how many they are, and the earliest, [`NO_POSITION`] when there is none.
+#[derive(Clone, Copy, Debug, PartialEq, Eq)]
+#[non_exhaustive]
+pub struct Reached {
+    pub set: [u64; SET_WORDS],
+    pub count: usize,
+    pub earliest: usize,
+}
+
+impl Reached {
+    /// The set has this position.
+    pub fn holds(&self, position: usize) -> bool {
+        self.set.get(position / 64).is_some_and(|word| word >> (position % 64) & 1 == 1)
+    }
+}
+
+/// The value, or the refusal with this number.
+pub(crate) fn answered<T>(number: u8, value: T) -> Result<T, Refusal> {
+    match number {
+        0 => Ok(value),
+        n => Err(Refusal::from_number(n).expect("a number of the table")),
+    }
+}
+
+impl<'a> Job<'a> {
+    /// A job whose fluents are all off at the start and whose log is empty.
+    pub const fn new(fluents: usize, actions: usize, masks: &'a [u32]) -> Self {
+        Job { fluents, actions, start: 0, masks, log: &[] }
+    }
+
+    /// The same job with this start state.
+    pub const fn with_start(self, start: u32) -> Self {
+        Job { start, ..self }
+    }
+
+    /// The same job with this log.
+    pub const fn with_log(self, log: &'a [u8]) -> Self {
+        Job { log, ..self }
+    }
+
+    pub const fn fluents(&self) -> usize {
+        self.fluents
+    }
+
+    pub const fn actions(&self) -> usize {
+        self.actions
+    }
+
+    pub const fn start(&self) -> u32 {
+        self.start
+    }
+
+    pub const fn masks(&self) -> &'a [u32] {
+        self.masks
+    }
+
+    pub const fn log(&self) -> &'a [u8] {
+        self.log
+    }
+
+    /// The state at a position of the log.
+    pub fn state(&self, position: usize) -> Result<u32, Refusal> {
+        let mut state = 0;
+        let refused = unsafe {
+            raw::wyh_state(
+                self.fluents,
+                self.actions,
+                self.start,
+                self.masks.as_ptr(),
+                self.masks.len(),
+                self.log.as_ptr(),
+                self.log.len(),
+                position,
+                &mut state,
+            )
+        };
+        answered(refused, state)
+    }
+
+    /// The positions that a walk leads to from `then` with `now`.
+    pub fn reach(&self, walk: &[u8], then: usize, now: usize) -> Result<Reached, Refusal> {
+        let (mut set, mut count, mut earliest) = ([0; SET_WORDS], 0, 0);
+        let refused = unsafe {
+            raw::wyh_reach(
+                self.fluents,
+                self.actions,
+                self.start,
+                self.masks.as_ptr(),
+                self.masks.len(),
+                self.log.as_ptr(),
+                self.log.len(),
+                walk.as_ptr(),
+                walk.len(),
+                then,
+                now,
+                set.as_mut_ptr(),
+                &mut count,
+                &mut earliest,
+            )
+        };
+        answered(refused, Reached { set, count: count as usize, earliest: earliest as usize })
+    }
+
+    /// Whether a test is true at (then, now).
+    pub fn verdict(&self, test: &[u8], then: usize, now: usize) -> Result<bool, Refusal> {
+        let mut yes = 0;
+        let refused = unsafe {
+            raw::wyh_verdict(
+                self.fluents,
+                self.actions,
+                self.start,
+                self.masks.as_ptr(),
+                self.masks.len(),
+                self.log.as_ptr(),
+                self.log.len(),
+                test.as_ptr(),
+                test.len(),
+                then,
+                now,
+                &mut yes,
+            )
+        };
+        answered(refused, yes == 1)
+    }
+
+    /// Whether an action may be taken at a position: its need bits are on and its ban bits off in the state there.
+    pub fn possible(&self, action: usize, position: usize) -> Result<bool, Refusal> {
+        let mut yes = 0;
+        let refused = unsafe {
+            raw::wyh_possible(
+                self.fluents,
+                self.actions,
+                self.start,
+                self.masks.as_ptr(),
+                self.masks.len(),
+                self.log.as_ptr(),
+                self.log.len(),
+                action,
+                position,
+                &mut yes,
+            )
+        };
+        answered(refused, yes == 1)
+    }
+
+    /// The actions that may come next, bit a for action a: those that the run waits for at the log's end and that are possible there.
+    pub fn next(&self, run: &[u8]) -> Result<u64, Refusal> {
+        let mut next = 0;
+        let refused = unsafe {
+            raw::wyh_next(
+                self.fluents,
+                self.actions,
+                self.start,
+                self.masks.as_ptr(),
+                self.masks.len(),
+                self.log.as_ptr(),
+                self.log.len(),
+                run.as_ptr(),
+                run.len(),
+                &mut next,
+            )
+        };
+        answered(refused, next)
+    }
+
+    /// The first sequence of at most `more` actions that finishes the run: written to the front of `out`, its length returned.
+    pub fn finish(&self, run: &[u8], more: usize, out: &mut [u8]) -> Result<usize, Refusal> {
+        let mut count = 0;
+        let refused = unsafe {
+            raw::wyh_finish(
+                self.fluents,
+                self.actions,
+                self.start,
+                self.masks.as_ptr(),
+                self.masks.len(),
+                self.log.as_ptr(),
+                self.log.len(),
+                run.as_ptr(),
+                run.len(),
+                more,
+                out.as_mut_ptr(),
+                out.len(),
+                &mut count,
+            )
+        };
+        answered(refused, count)
+    }
+
+    /// Reads one rule and hands back the unread rest of the text. Of the job it looks at the counts alone.
+    pub fn read_rule<'t>(&self, kind: Kind, text: &'t [u8]) -> Result<&'t [u8], Refusal> {
+        let mut rest = 0;
+        let refused = unsafe { raw::wyh_read_rule(text.as_ptr(), text.len(), kind as u8, self.fluents, self.actions, &mut rest) };
+        answered(refused, &text[rest..])
+    }
+
+    /// The normal form of a rule: written to the front of `out`, its length returned. Of the job it looks at the counts alone.
+    pub fn normal(&self, kind: Kind, text: &[u8], out: &mut [u8]) -> Result<usize, Refusal> {
+        let mut count = 0;
+        let refused =
+            unsafe { raw::wyh_normal(text.as_ptr(), text.len(), kind as u8, self.fluents, self.actions, out.as_mut_ptr(), out.len(), &mut count) };
+        answered(refused, count)
+    }
+}
