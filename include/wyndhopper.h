@@ -23,7 +23,7 @@
 #include <stddef.h>
 #include <stdint.h>
 
-#define WYH_VERSION "0.2.0"
+#define WYH_VERSION "0.3.0"
 
 #ifdef __cplusplus
 extern "C" {

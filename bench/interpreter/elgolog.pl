@@ -56,9 +56,10 @@ doLog(conv(?(P)),S,S1,Sn) :-                              % ADDED
 doLog(conv(conv(E)),S,S1,Sn) :-                           % ADDED
     doLog(E,S,S1,Sn).                                     % ADDED
 
-% `n` and `u` of a sheet, as document 01 has them: one step of the log, possible or not. The paper writes `any` as the choice over all actions, which is slower.
+% `n` and `u` of a sheet are the paper's `any`, the choice over all actions, and its converse. The action is taken from the log and not tried one after another,
+% which leads to the same situations and is to the interpreter's advantage.
 doLog(any,S,do(A,S),Sn) :-                                % ADDED
-    leq(do(A,S),Sn).                                      % ADDED
+    leq(do(A,S),Sn), primitive_action(A), poss(A,S).      % ADDED
 doLog(conv(any),S,S1,Sn) :-                               % ADDED
     doLog(any,S1,S,Sn).                                   % ADDED
 

@@ -6,6 +6,7 @@ pub struct Evaluator<'a, const QUICK: bool> {
     text: &'a [u8],
     ends: &'a [u8; 256],
     done: &'a [u64; 64],
+    pub any: u64,
     lit: &'a [u64; 32],
 }
 
@@ -21,7 +22,7 @@ pub fn cross(from: u64, over: u64, all: u64, back: bool) -> u64 {
 
 impl<'a, const QUICK: bool> Evaluator<'a, QUICK> {
     pub fn new(rule: &'a Rule, tables: &'a Tables) -> Self {
-        Evaluator { text: rule.text, ends: &rule.ends, done: &tables.done, lit: &tables.lit }
+        Evaluator { text: rule.text, ends: &rule.ends, done: &tables.done, any: tables.any, lit: &tables.lit }
     }
 
     /// The number behind the sign at a place.
@@ -51,8 +52,8 @@ impl<'a, const QUICK: bool> Evaluator<'a, QUICK> {
         match self.sign(at) {
             b'a' => cross(from, self.done(self.named(at)), all, back),
             b'r' => cross(from, self.done(self.named(at)), all, !back),
-            b'n' => cross(from, all, all, back),
-            b'u' => cross(from, all, all, !back),
+            b'n' => cross(from, self.any, all, back),
+            b'u' => cross(from, self.any, all, !back),
             b';' => {
                 let (one, two) = if back { (self.second(at), at + 1) } else { (at + 1, self.second(at)) };
                 self.walk(two, self.walk(one, from, all, back), all, back)

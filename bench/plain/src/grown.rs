@@ -23,7 +23,7 @@ impl Evaluator<'_, true> {
             }
             b'n' => {
                 *asked |= waits.wrapping_neg();
-                from << 1 & up_to(end)
+                cross(from, self.any, up_to(end), false)
             }
             b';' => {
                 let middle = self.onward(at + 1, from, end, asked);
@@ -66,11 +66,13 @@ impl Growing<'_> {
             let a = asked.trailing_zeros() as usize;
             self.tail[k] = a as u8;
             self.tables.done[a] |= 1 << n;
+            self.tables.any |= 1 << n;
             self.tables.arrive(after(self.world.act(a), state), n + 1);
             if self.complete(n + 1, k + 1, left - 1) {
                 return true;
             }
             self.tables.done[a] &= !(1 << n);
+            self.tables.any &= !(1 << n);
             self.tables.arrive(state, n + 1);
             asked &= asked - 1;
         }

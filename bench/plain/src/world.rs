@@ -50,6 +50,8 @@ impl<'a> World<'a> {
 pub struct Tables {
     /// The positions whose step is this action and was possible.
     pub done: [u64; 64],
+    /// The positions whose step was possible, whichever it is: what `n` may cross.
+    pub any: u64,
     /// The positions at which this fluent is on.
     pub lit: [u64; 32],
     /// The state at the log's end.
@@ -58,11 +60,13 @@ pub struct Tables {
 
 impl Tables {
     pub fn over(world: &World, log: &[u8]) -> Self {
-        let mut t = Tables { done: [0; 64], lit: [0; 32], last: 0 };
+        let mut t = Tables { done: [0; 64], any: 0, lit: [0; 32], last: 0 };
         t.arrive(world.start, 0);
         for (p, &a) in log.iter().enumerate() {
             let m = world.act(usize::from(a));
-            t.done[usize::from(a & 63)] |= u64::from(possible(m, t.last)) << p;
+            let step = u64::from(possible(m, t.last)) << p;
+            t.done[usize::from(a & 63)] |= step;
+            t.any |= step;
             t.arrive(after(m, t.last), p + 1);
         }
         t

@@ -3,16 +3,16 @@
 use mathlib.Core.Path.{_≡_, sym, _∙_}
 use mathlib.Core.Logic.{_↔_}
 use mathlib.Core.Bool.{Bool, true, false, not, false≢true, _&&_, _||_}
-use mathlib.Core.Option.{some}
 use Prim.Native.Nat.{ℕ, _+_, _≤_, _<_}
 use native.Mathlib.Omega.{arith}
-use Rattle.meaning.specs.Theory.{World, Possible, stepAt, stateAt}
+use Rattle.meaning.specs.Theory.{World, stateAt}
 use Rattle.meaning.specs.Rule.{Walk, Test, act, undo, next, prev, seq, alt, star, check, conv, always, fluent, neg, both, diamond}
 use Rattle.laws.specs.Bit.{on}
 use Rattle.meaning.specs.Leads.{Leads, Holds, Step, AnyStep, Many, Here}
 use Rattle.meaning.proofs.Chain.{Within}
 use Rattle.meaning.proofs.Bounds.{leads-within, back-within}
 use Rattle.meaning.proofs.Converse.{back-exchanged}
+use Rattle.theory.specs.Tables.{TakenAt}
 use Rattle.ask.specs.Image.{Set, UpTo, Image, Sifted, Turn, Way, Crossing}
 use Rattle.laws.proofs.Truth.{and-iff}
 use Rattle.ask.proofs.Image.{image-same, then-image, or-image, many-many, always-sifted, not-sifted, both-sifted, some-sifted}
@@ -23,7 +23,7 @@ way-within w x true = back-within w x
 
 -- `aNN`, `rNN`: of the positions before now, those whose step is NN and was possible
 abbrev pub Done : World → ℕ → ℕ → Set → Type 0
-Done w a n c = (p : ℕ) → p < n → (c p ≡ true) ↔ ((stepAt w p ≡ some a) × Possible (w .masks a) (stateAt w p))
+Done w a n c = (p : ℕ) → p < n → (c p ≡ true) ↔ TakenAt w p a
 
 step-crossing : (w : World) (a n : ℕ) (c : Set) → Done w a n c → (p q : ℕ) → Crossing c p q n ↔ Step w a p q n
 step-crossing w a n c done p q = (
@@ -44,22 +44,28 @@ unfolding Leads
 undo-image w a false {n} {c} done i = image-same (λ p q. step-crossing w a n c done q p) i
 undo-image w a true {n} {c} done i = image-same (step-crossing w a n c done) i
 
--- `n`, `u`: all positions before now
-abbrev pub Any : World → ℕ → Set → Type 0
-Any w n c = (p : ℕ) → p < n → c p ≡ true
+-- `n`, `u`: of the positions before now, those whose step was possible
+abbrev pub AnyDone : World → ℕ → Set → Type 0
+AnyDone w n c = (p : ℕ) → p < n → (c p ≡ true) ↔ ((a : ℕ) × TakenAt w p a)
 
-any-crossing : (w : World) (n : ℕ) (c : Set) → Any w n c → (p q : ℕ) → Crossing c p q n ↔ AnyStep w p q n
-any-crossing w n c any p q = (λ h. record { onward = h .0; within = h .1 }, λ h. (h .onward, h .within, any p (omega arith)))
+any-crossing : (w : World) (n : ℕ) (c : Set) → AnyDone w n c → (p q : ℕ) → Crossing c p q n ↔ AnyStep w p q n
+any-crossing w n c able p q = (
+  λ h. let onward : q ≡ p + 1 = h .0 in
+      let within : q ≤ n = h .1 in
+      let u = able p (omega arith) .0 (h .2) in
+      (u .0, record { onward = onward; within = within; logged = u .1 .0; able = u .1 .1 }),
+  λ h. let step = h .1 in (step .onward, step .within, able p (omega arith) .1 (h .0, (step .logged, step .able))),
+)
 
-pub next-image : (w : World) (back : Bool) {n : ℕ} {c s r : Set} → Any w n c → Image (Turn back (Crossing c)) n s r → Image (Way w next back) n s r
+pub next-image : (w : World) (back : Bool) {n : ℕ} {c s r : Set} → AnyDone w n c → Image (Turn back (Crossing c)) n s r → Image (Way w next back) n s r
 unfolding Leads
-next-image w false {n} {c} any i = image-same (any-crossing w n c any) i
-next-image w true {n} {c} any i = image-same (λ p q. any-crossing w n c any q p) i
+next-image w false {n} {c} able i = image-same (any-crossing w n c able) i
+next-image w true {n} {c} able i = image-same (λ p q. any-crossing w n c able q p) i
 
-pub prev-image : (w : World) (back : Bool) {n : ℕ} {c s r : Set} → Any w n c → Image (Turn (not back) (Crossing c)) n s r → Image (Way w prev back) n s r
+pub prev-image : (w : World) (back : Bool) {n : ℕ} {c s r : Set} → AnyDone w n c → Image (Turn (not back) (Crossing c)) n s r → Image (Way w prev back) n s r
 unfolding Leads
-prev-image w false {n} {c} any i = image-same (λ p q. any-crossing w n c any q p) i
-prev-image w true {n} {c} any i = image-same (any-crossing w n c any) i
+prev-image w false {n} {c} able i = image-same (λ p q. any-crossing w n c able q p) i
+prev-image w true {n} {c} able i = image-same (any-crossing w n c able) i
 
 -- `;VW`: in order, and backwards exchanged
 pub seq-image : (w : World) (v x : Walk) (back : Bool) {n : ℕ} {s a r : Set} → back ≡ false → Image (Way w v back) n s a → Image (Way w x back) n a r → Image (Way w (seq v x) back) n s r

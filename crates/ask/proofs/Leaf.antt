@@ -14,19 +14,23 @@ use Rattle.meaning.specs.Limits.{fluentLimit, actionLimit, places}
 use Rattle.meaning.specs.Theory.{World, stateAt}
 use Rattle.meaning.specs.Rule.{Walk, Test, ofWalk, ofTest}
 use Rattle.meaning.specs.Leads.{Holds}
-use Rattle.theory.specs.Tables.{actionRows, fluentRows, amongHolds, actionHolds, fluentHolds}
+use Rattle.theory.specs.Tables.{actionRows, fluentRows, possibleRow, rowHolds, amongHolds, actionHolds, fluentHolds}
 use Rattle.ask.specs.Image.{Set, UpTo, Image, Sifted, Turn, Way, Crossing}
 use Rattle.spelling.specs.declared.Digits.the-variants.{Number}
 use Rattle.spelling.specs.Scan.{NumberAt}
 use Rattle.rule.specs.Standing.{Leaf}
 use Rattle.ask.specs.Found.{LeafHere, Numbered, Tabled, LeafFound, TestFound}
-use Rattle.ask.proofs.Arms.{Done, act-image, undo-image, next-image, prev-image, fluent-keeps}
+use Rattle.ask.proofs.Arms.{Done, AnyDone, act-image, undo-image, next-image, prev-image, fluent-keeps}
 use Rattle.rule.proofs.Spread.{Spread, spread, act-at, undo-at, next-at, prev-at, seq-at, alt-at, star-at, check-at, conv-at, fluent-at}
 use Rattle.ask.proofs.Calls.{NoSign}
 
 -- the set is the row that the sign there names, among so many from a first one on
 abbrev pub RowOf : List ℕ → ℕ → List ℕ → ℕ → ℕ → Set → Type 0
 RowOf bytes at rows first many c = (n q : ℕ) → NumberAt bytes (at + 1) (Number n) → c q ≡ amongHolds rows first many n q
+
+-- the set is the row of the steps that were possible
+abbrev pub PossibleOf : List ℕ → Set → Type 0
+PossibleOf rows c = (q : ℕ) → c q ≡ rowHolds rows possibleRow q
 
 -- all positions up to now
 abbrev pub AllTo : ℕ → Set → Type 0
@@ -48,6 +52,9 @@ module _ {w : World} {rows : List ℕ} {n : ℕ} (tabled : Tabled w rows n) (c :
   fluent-row i e q low =
       let (seen, was) = tabled .described .shown i q in
       rw (e q) (λ h. seen h .1, λ h. was (omega (arith, tabled .logged), h))
+
+  possible-row : ((q : ℕ) → c q ≡ rowHolds rows possibleRow q) → AnyDone w n c
+  possible-row e p low = rw (e p) (tabled .described .possible p)
 
   pub all-to : AllTo n c → (q : ℕ) → q ≤ n → c q ≡ true
   all-to e q low = e q ∙ and-iff (leb q n) (ltb q places) .1 (le-leb q n low, lt-ltb q places (omega (arith, room)))
@@ -83,21 +90,21 @@ module _ {bytes : List ℕ} {at : ℕ} {back : Bool} {rows : List ℕ} {n : ℕ}
       go w tabled low (undo-at a d) = undo-image w a back (action-row tabled c a (λ q. row a q d)) (step (room tabled c) low)
 
   -- `n`
-  pub next-found : getD bytes at 0 ≡ 110 → AllTo n c → Stepped back n c s r → LeafFound bytes at back rows n s r
-  next-found sign all step = record { found = λ w tabled low x leaf h. go w tabled low (spread h 110 sign) }
+  pub next-found : getD bytes at 0 ≡ 110 → PossibleOf rows c → Stepped back n c s r → LeafFound bytes at back rows n s r
+  next-found sign able step = record { found = λ w tabled low x leaf h. go w tabled low (spread h 110 sign) }
     where
       go : (w : World) → Tabled w rows n → UpTo n s → {x : Walk} → Spread bytes at 110 (ofWalk x) → Image (Way w x back) n s r
-      go w tabled low next-at = next-image w back (λ p l. all-to tabled c all p (omega arith)) (step (room tabled c) low)
+      go w tabled low next-at = next-image w back (possible-row tabled c able) (step (room tabled c) low)
 
   -- `u`, which is none of the others
-  pub prev-found : NoSign bytes at 97 → NoSign bytes at 114 → NoSign bytes at 110 → AllTo n c → Stepped (not back) n c s r → LeafFound bytes at back rows n s r
-  prev-found no-act no-undo no-next all step = record { found = λ w tabled low x leaf h. go w tabled low leaf (spread h (getD bytes at 0) refl) refl }
+  pub prev-found : NoSign bytes at 97 → NoSign bytes at 114 → NoSign bytes at 110 → PossibleOf rows c → Stepped (not back) n c s r → LeafFound bytes at back rows n s r
+  prev-found no-act no-undo no-next able step = record { found = λ w tabled low x leaf h. go w tabled low leaf (spread h (getD bytes at 0) refl) refl }
     where
       go : (w : World) → Tabled w rows n → UpTo n s → {b : ℕ} {x : Walk} → Leaf x → Spread bytes at b (ofWalk x) → getD bytes at 0 ≡ b → Image (Way w x back) n s r
       go w tabled low leaf (act-at a d) e = absurd (no-act e)
       go w tabled low leaf (undo-at a d) e = absurd (no-undo e)
       go w tabled low leaf next-at e = absurd (no-next e)
-      go w tabled low leaf prev-at e = prev-image w back (λ p l. all-to tabled c all p (omega arith)) (step (room tabled c) low)
+      go w tabled low leaf prev-at e = prev-image w back (possible-row tabled c able) (step (room tabled c) low)
       go w tabled low leaf (seq-at v y p q) e = absurd leaf
       go w tabled low leaf (alt-at v y p q) e = absurd leaf
       go w tabled low leaf (star-at y p) e = absurd leaf

@@ -1,8 +1,6 @@
 // The signs with no part: one step of the log, up or down, and the row of a table that a sign names. Knows no other sign.
 ghost use mathlib.Core.Path.{_≡_};
-ghost use mathlib.Core.Bool.{_&&_};
 ghost use Prim.Native.Nat.{ℕ, _+_, _≤_, _<_};
-ghost use lib.Dec.{ltb, leb};
 ghost use Rattle.meaning.specs.Limits.{places};
 ghost use Rattle.positions.specs.Positions.{holds};
 ghost use Rattle.theory.specs.Tables.{rowCount, amongHolds};
@@ -13,6 +11,7 @@ ghost use Rattle.ask.specs.Found.{Numbered, LeafHere, LeafFound};
 use positions::PositionSet;
 use theory::ACTION_LIMIT;
 use theory::tables::ACTION_ROWS;
+use theory::tables::POSSIBLE_ROW;
 use theory::tables::ROWS;
 
 pub(crate) fn wide(b: u8) -> usize
@@ -52,13 +51,6 @@ pub(crate) fn row(
     }
 }
 
-// The positions whose step `n` may cross.
-fn any_step(now: usize) -> PositionSet
-    ensures { λ r. ⌜ ((q : ℕ) → holds r q ≡ (leb q now && ltb q places)) ⌝ }
-{
-    PositionSet::up_to(now)
-}
-
 // One step from each position of a set, over steps that may be crossed; backwards, to each position whose step leads into the set.
 fn cross(from: PositionSet, over: PositionSet, now: usize, back: bool) -> PositionSet
     ensures { λ r. ⌜ (now < places → UpTo now (holds from) → Image (Turn back (Crossing (holds over))) now (holds from) (holds r)) ⌝ }
@@ -88,6 +80,7 @@ pub(crate) fn leaf(
 {
     let sign = text[at];
     let name = at + 1;
+    let possible = rows[POSSIBLE_ROW];
     match sign {
         b'a' => {
             let over = row(text, name, rows, ACTION_ROWS, ACTION_LIMIT);
@@ -97,13 +90,14 @@ pub(crate) fn leaf(
             let over = row(text, name, rows, ACTION_ROWS, ACTION_LIMIT);
             cross(from, over, now, !back)
         }
+        // one of the theory's actions: over the steps that were possible
         b'n' => {
-            let over = any_step(now);
-            cross(from, over, now, back)
+            let ahead = PositionSet::of_word(possible);
+            cross(from, ahead, now, back)
         }
         _ => {
-            let over = any_step(now);
-            cross(from, over, now, !back)
+            let behind = PositionSet::of_word(possible);
+            cross(from, behind, now, !back)
         }
     }
 }

@@ -52,7 +52,7 @@ waits w (act c) b k a s = λ p q n h low high.
     let step : stepAt w p ≡ some c = h .logged in
     (here, cc)
 waits w (undo c) b k a s = absurd (true≢false b)
-waits w next b k a s = λ p q n h low high. omega arith
+waits w next b k a s = λ p q n h low high. let step = h .1 in omega arith
 waits w prev b k a s = absurd (true≢false b)
 waits w (seq v x) b k a s =
     let e = neither (backward v) (backward x) b in

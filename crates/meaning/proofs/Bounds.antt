@@ -19,8 +19,8 @@ mutual
   pub leads-within : (w : World) (x : Walk) → Within (Leads w x)
   leads-within w (act a) = λ p q n h. omega arith
   leads-within w (undo a) = λ p q n h. omega arith
-  leads-within w next = λ p q n h. omega arith
-  leads-within w prev = λ p q n h. omega arith
+  leads-within w next = λ p q n h. let step = h .1 in omega arith
+  leads-within w prev = λ p q n h. let step = h .1 in omega arith
   leads-within w (seq v x) = then-within (leads-within w v) (leads-within w x)
   leads-within w (alt v x) = or-within (leads-within w v) (leads-within w x)
   leads-within w (star x) = many-within (leads-within w x)
@@ -30,8 +30,8 @@ mutual
   pub back-within : (w : World) (x : Walk) → Within (Back w x)
   back-within w (act a) = λ p q n h. omega arith
   back-within w (undo a) = λ p q n h. omega arith
-  back-within w next = λ p q n h. omega arith
-  back-within w prev = λ p q n h. omega arith
+  back-within w next = λ p q n h. let step = h .1 in omega arith
+  back-within w prev = λ p q n h. let step = h .1 in omega arith
   -- found by search, for it does not matter here that the order is exchanged
   back-within w (seq v x) = search (then-within, back-within w v, back-within w x)
   back-within w (alt v x) = or-within (back-within w v) (back-within w x)

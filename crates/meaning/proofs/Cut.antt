@@ -10,7 +10,7 @@ use lib.Seq.{take-take, take-append-le}
 use Rattle.laws.specs.Bit.{on}
 use Rattle.meaning.specs.Theory.{Possible, World, relog}
 use Rattle.meaning.specs.Rule.{Walk, Test, act, undo, next, prev, seq, alt, star, check, conv, always, fluent, neg, both, diamond}
-use Rattle.meaning.specs.Leads.{Rel, Truth, Leads, Back, Holds, Step, Then, Or, Many, Here, Some, ownNow}
+use Rattle.meaning.specs.Leads.{Rel, Truth, Leads, Back, Holds, Step, AnyStep, Then, Or, Many, Here, Some, ownNow}
 use Rattle.meaning.proofs.Chain.{Within, chain-map}
 use Rattle.meaning.proofs.Bounds.{leads-within}
 use Rattle.meaning.proofs.Converse.{back-exchanged}
@@ -60,6 +60,9 @@ step-kept w l l′ a p q n e h = record {
   able = subst (Possible _) (state-cut w l l′ p n e (omega arith)) (h .able);
 }
 
+any-kept : (w : World) (l l′ : List ℕ) → Kept (Agree l l′) (AnyStep (relog w l)) (AnyStep (relog w l′))
+any-kept w l l′ p q n e h = (h .0, step-kept w l l′ (h .0) p q n e (h .1))
+
 -- a test inside a walk: its own now is from its position up to the outer now
 here-kept : (w : World) (l l′ : List ℕ) {x y : Truth} → Stays (Agree l l′) x y → Kept (Agree l l′) (Here (relog w l) x) (Here (relog w l′) y)
 unfolding ownNow
@@ -75,8 +78,8 @@ mutual
   leads-kept : (w : World) (x : Walk) (l l′ : List ℕ) → Kept (Agree l l′) (Leads (relog w l) x) (Leads (relog w l′) x)
   leads-kept w (act a) = λ l l′. step-kept w l l′ a
   leads-kept w (undo a) = λ l l′ p q. step-kept w l l′ a q p
-  leads-kept w next = λ l l′ p q n e h. h
-  leads-kept w prev = λ l l′ p q n e h. h
+  leads-kept w next = λ l l′. any-kept w l l′
+  leads-kept w prev = λ l l′ p q. any-kept w l l′ q p
   leads-kept w (seq v x) = λ l l′. then-kept (leads-kept w v l l′) (leads-kept w x l l′)
   leads-kept w (alt v x) = λ l l′. or-kept (leads-kept w v l l′) (leads-kept w x l l′)
   leads-kept w (star x) = λ l l′. many-kept (leads-kept w x l l′)

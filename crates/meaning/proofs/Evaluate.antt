@@ -1,6 +1,6 @@
 -- An evaluator that computes: rows of a walk, with one now, and the value of a test. It is the meaning of document 01, for every world, walk and test.
 -- It asks the definitions themselves for a state, a step and a test's own now, so that a change of one of them changes what is computed.
-use mathlib.Core.Path.{_≡_}
+use mathlib.Core.Path.{_≡_, subst}
 use mathlib.Core.Logic.{Iff·rfl}
 use mathlib.Core.Bool.{Bool, true, false, not, _&&_}
 use mathlib.Core.Option.{Option, none, some, Option·none-ne-some}
@@ -10,7 +10,7 @@ use lib.Dec.{eqb, leb}
 use Rattle.laws.specs.Bit.{on, gather}
 use Rattle.meaning.specs.Theory.{Masks, World, after, run, stateAt}
 use Rattle.meaning.specs.Rule.{Walk, Test, act, undo, next, prev, seq, alt, star, check, conv, always, fluent, neg, both, diamond}
-use Rattle.meaning.specs.Leads.{Rel, Truth, Taken, Step, Crossed, AnyStep, Here, ownNow, Some, Leads, Back, Holds}
+use Rattle.meaning.specs.Leads.{Rel, Truth, Taken, Step, AnyStep, Here, ownNow, Some, Leads, Back, Holds}
 use Rattle.meaning.proofs.Chain.{Within}
 use Rattle.meaning.proofs.Bounds.{leads-within, back-within}
 use Rattle.meaning.proofs.Tells.{Tells, true-tells, false-tells, eq-tells, le-tells, and-tells, not-tells, tells-as, anyBelow, any-tells}
@@ -46,13 +46,31 @@ taken-tells {step} {m} {state} {a} {p} {q} {n} asked =
     (λ h. record { onward = h .0; within = h .1 .0; logged = h .1 .1 .0; able = h .1 .1 .1 })
     (λ h. (h .onward, (h .within, (h .logged, h .able))))
 
-unfoldable pub crossed : {p q n : ℕ} → The (Crossed p q n) → Bool
-crossed {p} {q} {n} asked = eqb q (p + 1) && leb q n
+-- some action: the one that the log has there
+unfoldable pub takenBy : Option ℕ → (ℕ → Masks) → ℕ → ℕ → ℕ → ℕ → Bool
+unfolding taken
+takenBy none masks state p q n = false
+takenBy (some b) masks state p q n = taken (the (Taken (some b) (masks b) state b p q n))
 
-crossed-tells : {p q n : ℕ} (asked : The (Crossed p q n)) → Tells (crossed asked) (Crossed p q n)
-unfolding crossed
-crossed-tells {p} {q} {n} asked =
-    tells-as (and-tells (eq-tells q (p + 1)) (le-tells q n)) (λ h. record { onward = h .0; within = h .1 }) (λ h. (h .onward, h .within))
+taken-by-tells : (step : Option ℕ) (masks : ℕ → Masks) (state p q n : ℕ)
+    → Tells (takenBy step masks state p q n) ((a : ℕ) × Taken step (masks a) state a p q n)
+unfolding takenBy
+taken-by-tells none masks state p q n = false-tells (λ h. Option·none-ne-some (h .0) (h .1 .logged))
+taken-by-tells (some b) masks state p q n =
+    tells-as (taken-tells (the (Taken (some b) (masks b) state b p q n))) (λ h. (b, h))
+    (λ h.
+    let logged : some b ≡ some (h .0) = h .1 .logged in
+    let same : h .0 ≡ b = cc in
+    subst (λ (a : ℕ). Taken (some b) (masks a) state a p q n) same (h .1))
+
+unfoldable pub anyTaken : {step : Option ℕ} {masks : ℕ → Masks} {state p q n : ℕ} → The ((a : ℕ) × Taken step (masks a) state a p q n) → Bool
+unfolding takenBy
+anyTaken {step} {masks} {state} {p} {q} {n} asked = takenBy step masks state p q n
+
+any-taken-tells : {step : Option ℕ} {masks : ℕ → Masks} {state p q n : ℕ} (asked : The ((a : ℕ) × Taken step (masks a) state a p q n))
+    → Tells (anyTaken asked) ((a : ℕ) × Taken step (masks a) state a p q n)
+unfolding anyTaken
+any-taken-tells {step} {masks} {state} {p} {q} {n} asked = taken-by-tells step masks state p q n
 
 unfoldable pub stepGrid : World → ℕ → Grid
 unfolding kept taken run after gather on
@@ -63,12 +81,12 @@ unfolding stepGrid
 step-draws w a = kept-draws (λ p q n h. omega arith) (λ p q n. taken-tells (the (Step w a p q n)))
 
 unfoldable pub anyGrid : World → Grid
-unfolding kept crossed
-anyGrid w = kept (λ n p q. crossed (the (AnyStep w p q n)))
+unfolding kept anyTaken run after gather on
+anyGrid w = kept (λ n p q. anyTaken (the (AnyStep w p q n)))
 
 any-draws : (w : World) → Draws (anyGrid w) (AnyStep w)
 unfolding anyGrid
-any-draws w = kept-draws (λ p q n h. omega arith) (λ p q n. crossed-tells (the (AnyStep w p q n)))
+any-draws w = kept-draws (λ p q n h. let step = h .1 in omega arith) (λ p q n. any-taken-tells (the (AnyStep w p q n)))
 
 -- a test's value, with each now and then; and that it is the test's truth
 abbrev pub Value : Type 0

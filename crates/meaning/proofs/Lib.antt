@@ -17,3 +17,4 @@ pub mod Possible
 pub mod Evaluate
 pub mod Endings
 pub mod Cases
+pub mod Any

@@ -7,7 +7,7 @@ use Prim.Native.Nat.{ℕ, _≤_}
 use native.Mathlib.Omega.{arith}
 use Rattle.meaning.specs.Theory.{World}
 use Rattle.meaning.specs.Rule.{Walk, act, undo, next, prev, seq, alt, star, check, conv, backward}
-use Rattle.meaning.specs.Leads.{Rel, Leads, Then, Or, Many, ownNow, stay, link}
+use Rattle.meaning.specs.Leads.{Rel, Leads, Step, Then, Or, Many, ownNow, stay, link}
 use Rattle.meaning.proofs.Bounds.{leads-within}
 
 -- what a walk of two parts with no backward sign says of its parts
@@ -55,7 +55,7 @@ pub onward : (w : World) (x : Walk) → backward x ≡ false → Onward (Leads w
 unfolding Leads backward
 onward w (act a) b = λ p q n h. omega arith
 onward w (undo a) b = absurd (true≢false b)
-onward w next b = λ p q n h. omega arith
+onward w next b = λ p q n h. let step = h .1 in omega arith
 onward w prev b = absurd (true≢false b)
 onward w (seq v x) b =
     let e = neither (backward v) (backward x) b in
@@ -67,12 +67,15 @@ onward w (star x) b = many-onward (onward w x b)
 onward w (check t) b = λ p q n h. omega arith
 onward w (conv x) b = absurd (true≢false b)
 
+step-movable : (w : World) (a : ℕ) → Movable (Step w a)
+step-movable w a p q n k h l = record { onward = h .onward; within = l; logged = h .logged; able = h .able }
+
 -- and its now may be moved, back to its end and forth as far as one likes
 pub movable : (w : World) (x : Walk) → backward x ≡ false → Movable (Leads w x)
 unfolding Leads backward ownNow
-movable w (act a) b = λ p q n k h l. record { onward = h .onward; within = l; logged = h .logged; able = h .able }
+movable w (act a) b = step-movable w a
 movable w (undo a) b = absurd (true≢false b)
-movable w next b = λ p q n k h l. record { onward = h .onward; within = l }
+movable w next b = λ p q n k h l. (h .0, step-movable w (h .0) p q n k (h .1) l)
 movable w prev b = absurd (true≢false b)
 movable w (seq v x) b =
     let e = neither (backward v) (backward x) b in

@@ -71,7 +71,7 @@ cases =
     ∷ reach L "?<a011" 1 4 0 0 64
     ∷ verdict L "<a011" 1 4 yes
     ∷ reach M "a01" 0 2 0 0 64
-    ∷ reach M "n" 0 2 2 1 1
+    ∷ reach M "n" 0 2 0 0 64
     ∷ reach M "a00" 1 2 4 1 2
     ∷ reach E "*n" 0 0 1 1 0
     ∷ verdict E "f00" 0 0 no

@@ -27,13 +27,9 @@ pub record Taken (step : Option ℕ) (m : Masks) (state a p q n : ℕ) : Type 0 
 abbrev pub Step : World → ℕ → Rel
 Step w a p q n = Taken (stepAt w p) (w .masks a) (stateAt w p) a p q n
 
--- `n`: "q = p+1 ≤ n"
-pub record Crossed (p q n : ℕ) : Type 0 where
-  pub onward : q ≡ p + 1
-  pub within : q ≤ n
-
+-- `n`: the paper's *any*, "the choice over all actions", so that "a step counts only if that action was possible": some action, as `aNN` means it
 abbrev pub AnyStep : World → Rel
-AnyStep w p q n = Crossed p q n
+AnyStep w p q n = (a : ℕ) × Step w a p q n
 
 -- "the same with p and q exchanged"
 abbrev pub Turned : Rel → Rel

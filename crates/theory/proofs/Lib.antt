@@ -4,3 +4,4 @@ pub mod Reading
 pub mod Determined
 pub mod Marks
 pub mod Transposed
+pub mod Any

@@ -25,13 +25,18 @@ impl<'a> World<'a> {
         p < self.log.len() && self.log[p] as usize == a && possible(&self.theory.masks[a], self.states[p])
     }
 
+    /// Document 02, Q-1: "the choice over all actions, so a step counts only if that action was possible".
+    fn any_stepped(&self, p: usize) -> bool {
+        (0..self.theory.actions).any(|a| self.stepped(a, p))
+    }
+
     /// The pairs that a walk leads over, with now = n.
     pub fn walk(&self, w: &Walk, n: usize) -> Pairs {
         match w {
             Walk::Act(a) => Self::pairs(n, |p, q| q == p + 1 && self.stepped(*a, p)),
             Walk::Undo(a) => Self::pairs(n, |p, q| p == q + 1 && self.stepped(*a, q)),
-            Walk::Next => Self::pairs(n, |p, q| q == p + 1),
-            Walk::Prev => Self::pairs(n, |p, q| p == q + 1),
+            Walk::Next => Self::pairs(n, |p, q| q == p + 1 && self.any_stepped(p)),
+            Walk::Prev => Self::pairs(n, |p, q| p == q + 1 && self.any_stepped(q)),
             Walk::Seq(v, w) => {
                 let (v, w) = (self.walk(v, n), self.walk(w, n));
                 Self::pairs(n, |p, q| (0..=n).any(|m| v[p][m] && w[m][q]))

@@ -173,7 +173,7 @@ mod tests {
         assert_eq!(set(l, "-;a00*n", 4, 4), 9);
         assert_eq!(set(l, "?<a011", 1, 4), 0);
         assert_eq!(set(m, "a01", 0, 2), 0);
-        assert_eq!(set(m, "n", 0, 2), 2);
+        assert_eq!(set(m, "n", 0, 2), 0);
         assert_eq!(set(m, "a00", 1, 2), 4);
         let ask = |then, now| verdict(2, 3, 0, &t, l, b"<-;a00*n!<;*na011", then, now).unwrap();
         assert_eq!([ask(4, 4), ask(2, 2), ask(1, 1), ask(1, 4)], [true, false, true, false]);

@@ -1,7 +1,9 @@
 -- `ask::step::leaf` meets its contract: each arm by the law of its sign.
+use mathlib.Core.Path.{sym}
 use native.Mathlib.Omega.{arith}
 use borrow.Author.Needs.{needs}
 use Rattle.positions.specs.Positions.{holds}
+use Rattle.theory.specs.Tables.{rowHolds}
 use Rattle.rule.proofs.Spread.{within}
 use Rattle.ask.proofs.Leaf.{act-number, undo-number, act-found, undo-found, next-found, prev-found}
 use Rattle.ask.proofs.step.leaf.Statement.{statement}
@@ -13,26 +15,29 @@ shared-slice-read-sign c = within (c .before .before .pre .stands)
 add-name : tie.Need-add-name
 add-name c = omega (arith, within (c .before .before .pre .stands))
 
+element-copy-out-possible : tie.Need-element-copy-out-possible
+element-copy-out-possible c = search needs
+
 row-requires : tie.Need-row-requires
-row-requires c κs = (act-number (c .before .before .before .pre) (c .match .keys1), omega arith)
+row-requires c κs = (act-number (c .before .before .before .before .pre) (c .match .keys1), omega arith)
 
 cross-requires : tie.Need-cross-requires
 cross-requires c κs = search needs
 
 row-requires-2 : tie.Need-row-requires-2
-row-requires-2 c κs = (undo-number (c .before .before .before .pre) (c .match .keys2), omega arith)
+row-requires-2 c κs = (undo-number (c .before .before .before .before .pre) (c .match .keys2), omega arith)
 
 cross-requires-2 : tie.Need-cross-requires-2
 cross-requires-2 c κs = search needs
 
-any-step-requires : tie.Need-any-step-requires
-any-step-requires c κs = search needs
+of-word-requires : tie.Need-of-word-requires
+of-word-requires c κs = search needs
 
 cross-requires-3 : tie.Need-cross-requires-3
 cross-requires-3 c κs = search needs
 
-any-step-requires-2 : tie.Need-any-step-requires-2
-any-step-requires-2 c κs = search needs
+of-word-requires-2 : tie.Need-of-word-requires-2
+of-word-requires-2 c κs = search needs
 
 cross-requires-4 : tie.Need-cross-requires-4
 cross-requires-4 c κs = search needs
@@ -44,12 +49,17 @@ returns-2 : tie.Need-returns-2
 returns-2 c = undo-found (holds (c .before .row2 .result)) (c .before .before .match .keys2) (c .before .row2 .ensures) (c .cross2 .ensures)
 
 returns-3 : tie.Need-returns-3
-returns-3 c = next-found (holds (c .before .any-step .result)) (c .before .before .match .keys3) (c .before .any-step .ensures) (c .cross3 .ensures)
+unfolding rowHolds
+returns-3 c =
+    let ahead = c .before .of-word in
+    next-found (holds (ahead .result)) (c .before .before .match .keys3) (λ q. sym (ahead .ensures .bits q)) (c .cross3 .ensures)
 
 returns-4 : tie.Need-returns-4
+unfolding rowHolds
 returns-4 c =
+    let behind = c .before .of-word2 in
     let none = c .before .before .match .rest in
-    prev-found (holds (c .before .any-step2 .result)) (none .0 .0 .1) (none .0 .1) (none .1) (c .before .any-step2 .ensures) (c .cross4 .ensures)
+    prev-found (holds (behind .result)) (none .0 .0 .1) (none .0 .1) (none .1) (λ q. sym (behind .ensures .bits q)) (c .cross4 .ensures)
 
 pub leaf-spec : {M : Type 1} → statement M
 leaf-spec =
@@ -57,13 +67,14 @@ leaf-spec =
     (tie.spec
     shared-slice-read-sign
     add-name
+    element-copy-out-possible
     row-requires
     cross-requires
     row-requires-2
     cross-requires-2
-    any-step-requires
+    of-word-requires
     cross-requires-3
-    any-step-requires-2
+    of-word-requires-2
     cross-requires-4
     returns
     returns-2
