@@ -10,7 +10,7 @@
  *   Time: every call ends; a usual question takes about a microsecond. Two kinds of rule can take far longer, and no call has a bound on its time: `?` nested five
  *         deep or more, and stars nested three deep or more whose bodies have a `?`; and a finish whose run asks for any action (`n`) and comes to no end, which tries up to
  *         `actions` to the power of `more` sequences. docs/BENCHMARKS.md has the times.
- *   Stack: measured, less than 32 kilobytes; no heap.
+ *   Stack: measured, less than 33 kilobytes (a text of 255 signs that is refused; an accepted call takes less than 16); no heap.
  *   Threads: nothing is kept between calls, so any number of threads may call at once, each with lent memory of its own.
  *
  * A job is a theory and a log. The theory: `fluents` (0 to 32), `actions` (1 to 64), the start state, and a mask table of four masks an action, need, ban, put, drop,
