@@ -15,12 +15,35 @@ def lines(name):
     return [line.split("\t") for line in path.read_text().splitlines()]
 
 
+def time(told):
+    """Microseconds; nothing where one was not asked any more."""
+    return None if told == "over" else float(told)
+
+
 def growth():
-    """Plot, then series, then points (x, ours, plain)."""
+    """Plot, then series, then points (x, ours, plain, quick)."""
     plots = {}
-    for plot, series, x, ours, plain in lines("growth.tsv"):
-        plots.setdefault(plot, {}).setdefault(series, []).append((int(x), float(ours), float(plain)))
+    for plot, series, x, *times in lines("growth.tsv"):
+        plots.setdefault(plot, {}).setdefault(series, []).append((int(x), *map(time, times)))
     return plots
+
+
+def work():
+    """Family, then rows (k, ours, quick, visits, bound)."""
+    families = {}
+    for _, family, k, ours, quick, visits, bound in lines("work.tsv"):
+        families.setdefault(family, []).append((int(k), time(ours), float(quick), int(visits), int(bound)))
+    return families
+
+
+def search():
+    """Family, then rows (k, ours, quick, plain's turns, quick's turns)."""
+    families = {}
+    for kind, *row in lines("search.tsv"):
+        if kind == "search":
+            family, k, ours, quick, plain_turns, turns = row
+            families.setdefault(family, []).append((int(k), time(ours), float(quick), plain_turns, int(turns)))
+    return families
 
 
 def figures(value, wanted=3):

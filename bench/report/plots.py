@@ -21,7 +21,7 @@ class Frame:
     """From values to places on the page."""
 
     def __init__(self, points):
-        times = [t for _, *both in points for t in both]
+        times = [t for _, *each in points for t in each[:2] if t]
         self.low, self.high = math.floor(math.log10(min(times))), math.ceil(math.log10(max(times)))
         self.first, self.last = min(p[0] for p in points), max(p[0] for p in points)
 
@@ -48,6 +48,7 @@ def line(x, y, to_x, to_y, colour):
 
 
 def path(frame, points, which, colour):
+    points = [p for p in points if p[which]]
     places = " ".join(f"{frame.x(p[0]):.1f},{frame.y(p[which]):.1f}" for p in points)
     dashed = ' stroke-dasharray="5 4"' if which == 2 else ""
     drawn = f'<polyline points="{places}" fill="none" stroke="{colour}" stroke-width="1.6"{dashed}/>'

@@ -3,7 +3,7 @@ import re
 import statistics
 
 from goals import goals
-from lines import DOCS, figures, growth, lines, ratio
+from lines import DOCS, figures, growth, lines, ratio, search, work
 
 TARGET = DOCS / "BENCHMARKS.md"
 
@@ -44,12 +44,37 @@ def grown():
     rows = []
     for plot, series in growth().items():
         for name, points in series.items():
-            (x, first, _), (y, last, _) = points[0], points[-1]
-            middle = statistics.median(o / p for _, o, p in points)
-            longest = max(o for _, o, _ in points)
-            rows.append([f"{plot}: {name}", f"{x} to {y}", figures(first), figures(last), figures(longest), f"{middle:.2f}"])
-    head = ["Series", "From, to", "First, µs", "Last, µs", "Longest, µs", "Ours / plain, median"]
+            (x, first, *_), (y, last, *_) = points[0], points[-1]
+            middles = [ratio(statistics.median(p[1] / p[k] for p in points if p[k]), 1) for k in (2, 3)]
+            longest = max(ours for _, ours, *_ in points)
+            rows.append([f"{plot}: {name}", f"{x} to {y}", figures(first), figures(last), figures(longest), *middles])
+    head = ["Series", "From, to", "First, µs", "Last, µs", "Longest, µs", "Ours / plain, median", "Ours / quick, median"]
     return table(head, rows)
+
+
+def worked():
+    rows = []
+    for name, points in work().items():
+        for k, ours, quick, visits, bound in points:
+            told = figures(ours) if ours else "not asked"
+            rows.append([name, k, told, figures(quick), f"{visits:,}", f"{bound:,}"])
+    return table(["Family", "k", "Ours, µs", "Quick plain, µs", "Visits / call", "Bound / call"], rows)
+
+
+def sought():
+    rows = []
+    for name, points in search().items():
+        for k, ours, quick, plain_turns, turns in points:
+            told = figures(ours) if ours else "not asked"
+            counted = "over 20,000" if plain_turns == "over" else f"{int(plain_turns):,}"
+            rows.append([name, k, told, figures(quick), counted, f"{turns:,}"])
+    return table(["Family", "k", "Ours, µs", "Quick plain, µs", "Plain, turns / call", "Quick plain, turns / call"], rows)
+
+
+def factory():
+    [[_, jobs, finished, over, limit, median, most, longest]] = [row for row in lines("search.tsv") if row[0] == "factory"]
+    told = f"Of {jobs} factory jobs with `n`, {finished} of which can be finished, {over} take plain over {int(limit):,} turns. "
+    return told + f"Quick plain takes {int(median):,} in the median and {int(most):,} at most, {figures(float(longest))} µs."
 
 
 def stack():
@@ -76,6 +101,9 @@ TABLES = {
     "interpreter": interpreter,
     "sheets": sheets,
     "growth": grown,
+    "work": worked,
+    "search": sought,
+    "factory": factory,
     "stack": stack,
     "machine": machine,
     "goals": lambda: table(["Goal", "Measured", "Where it is missed"], goals()),

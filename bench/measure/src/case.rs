@@ -78,14 +78,30 @@ macro_rules! engine {
 engine!(plain, verdict, reach, finish);
 engine!(quick, quick_verdict, quick_reach, quick_finish);
 
-/// How often the search asks the job, in the plain implementation, which takes the same steps.
-pub fn turns(c: &Case) -> Option<usize> {
-    let t = &c.theory;
-    let job = plain::Job { fluents: t.fluents, actions: t.actions(), start: t.start, masks: &t.masks, log: &c.log };
-    match &c.ask {
-        Ask::Finish { job: text, more } => job.finish_turns(text.as_bytes(), *more).ok(),
-        _ => None,
+impl Case {
+    fn plain(&self) -> plain::Job<'_> {
+        let t = &self.theory;
+        plain::Job { fluents: t.fluents, actions: t.actions(), start: t.start, masks: &t.masks, log: &self.log }
     }
+}
+
+/// How often the search asks the job: in the plain implementation, counted up to a limit, and in the quick one.
+pub fn turns(c: &Case, limit: usize) -> Option<(usize, usize)> {
+    let Ask::Finish { job, more } = &c.ask else { return None };
+    let job = job.as_bytes();
+    Some((c.plain().finish_turns(job, *more, limit).ok()?, c.plain().quick_finish_turns(job, *more).ok()?))
+}
+
+/// How many signs the quick plain implementation visits for a verdict or a reach, and how many a rule of this length may take it at most.
+pub fn visits(c: &Case) -> Option<(usize, usize)> {
+    let job = c.plain();
+    let now = c.log.len();
+    let (text, visits) = match &c.ask {
+        Ask::Verdict { test, then } => (test, job.verdict_visits(test.as_bytes(), *then, now)),
+        Ask::Reach { walk, then } => (walk, job.reach_visits(walk.as_bytes(), *then, now)),
+        Ask::Finish { .. } => return None,
+    };
+    Some((visits.ok()?, text.len() * (now + 1) * (now + 2) / 2))
 }
 
 /// A sheet's text.

@@ -64,10 +64,10 @@ fn finishes() -> Vec<Case> {
     ]
 }
 
-/// How often the job was asked.
+/// How often the job was asked, by plain and by quick plain.
 fn turned(c: &Case) -> String {
-    let n = turns(c).expect("a finish that is not refused");
-    format!("{n} turn{}", if n == 1 { "" } else { "s" })
+    let (plain, quick) = turns(c, usize::MAX).expect("a finish that is not refused");
+    format!("turns {plain}, {quick}")
 }
 
 /// The answer in words.

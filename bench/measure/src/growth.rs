@@ -1,6 +1,6 @@
-//! Growth: the time of a call as one thing grows and all else stays, ours beside the plain implementation.
-use crate::case::{ours, plain, Ask, Case, Theory};
-use crate::clock::{side_by_side, POINT};
+//! Growth: the time of a call as one thing grows and all else stays, ours beside the plain implementation, as it is and quick.
+use crate::case::{ours, plain, quick, Ask, Case, Theory};
+use crate::clock::{side_by_side, Engine, POINT};
 use crate::texts::{diamonds, held_up, in_order, tests, wide_choice, wide_test};
 use crate::theories::{each_once, idle, labels, round};
 
@@ -28,13 +28,20 @@ fn finish(job: String, more: usize) -> Ask {
     Ask::Finish { job, more }
 }
 
-/// Lines `plot, series, x, ours, plain`, in microseconds.
+/// Lines `plot, series, x, ours, plain, quick`, in microseconds; `over` for one of the plain two that has taken too long in this series and is not asked any more.
 fn series(plot: &str, name: &str, xs: impl Iterator<Item = usize>, case: impl Fn(usize) -> Case) {
+    let mut asked: [Option<Engine>; 3] = [Some(ours), Some(plain), Some(quick)];
     for x in xs {
-        let c = case(x);
-        let times = side_by_side(&c, &[ours, plain], POINT);
-        println!("{plot}\t{name}\t{x}\t{:.4}\t{:.4}", times[0], times[1]);
-        if times[0] > LONG {
+        let engines: Vec<Engine> = asked.iter().flatten().copied().collect();
+        let mut times = side_by_side(&case(x), &engines, POINT).into_iter();
+        let mut columns = Vec::new();
+        for engine in &mut asked {
+            let time = engine.and_then(|_| times.next());
+            columns.push(time.map_or("over".into(), |t| format!("{t:.4}")));
+            engine.take_if(|_| time.is_some_and(|t| t > LONG));
+        }
+        println!("{plot}\t{name}\t{x}\t{}", columns.join("\t"));
+        if asked[0].is_none() {
             break;
         }
     }

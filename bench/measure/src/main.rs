@@ -1,16 +1,19 @@
-//! Measures the proved library: `measure compare`, `measure growth`, `measure stack`, `measure interpreter FOLDER`. Each prints lines of columns with tabs
+//! Measures the proved library: `measure compare`, `measure growth`, `measure work`, `measure search`, `measure stack`, `measure interpreter FOLDER`. Each prints lines of columns with tabs
 //! between, for the scripts beside it.
 mod case;
 mod clock;
 mod compare;
+mod factory;
 mod growth;
 mod interpreter;
 mod painted;
 mod prolog;
 mod shapes;
+mod sought;
 mod stack;
 mod texts;
 mod theories;
+mod work;
 
 fn main() {
     let args: Vec<String> = std::env::args().skip(1).collect();
@@ -18,10 +21,12 @@ fn main() {
     match words[..] {
         ["compare"] => compare::run(),
         ["growth"] => growth::run(),
+        ["work"] => work::run(),
+        ["search"] => sought::run(),
         ["stack"] => stack::run(),
         ["interpreter", folder] => interpreter::run(folder.as_ref()),
         _ => {
-            eprintln!("measure compare | growth | stack | interpreter FOLDER");
+            eprintln!("measure compare | growth | work | search | stack | interpreter FOLDER");
             std::process::exit(2);
         }
     }

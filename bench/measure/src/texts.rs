@@ -53,3 +53,33 @@ pub fn tests(k: usize) -> String {
 pub fn held_up(k: usize) -> String {
     "<*;n?".repeat(k) + "1" + &"!<n1".repeat(k)
 }
+
+/// A star that goes one step on or back to the start, and there walks the same again, k deep, to no end.
+pub fn and_again(k: usize) -> String {
+    (0..k).fold("n".into(), |inner, _| format!("*|n;*u;?!<u1;{inner}?!1"))
+}
+
+/// Stars in stars that go to and fro, k times.
+pub fn to_and_fro(k: usize) -> String {
+    "*;n*;u".repeat(k) + "n"
+}
+
+/// Stars behind and inside one another, with tests between.
+pub const MIXED: &str = "|*n*;;n*?1**|;*;n**u?!1u";
+
+/// A star over so many `n`, one position a round, asked anew at each position: the most signs that are known of.
+pub fn worst(leaves: usize) -> String {
+    format!("<?<*{}!<n11", balanced("|", &vec!["n".to_string(); leaves]))
+}
+
+/// Some steps that are not named, then these labels in order.
+pub fn after_any(labels: &[usize]) -> String {
+    let last = labels.len() - 1;
+    let named = |(k, a): (usize, &usize)| if k < last { format!(";a{a:02}") } else { format!("a{a:02}") };
+    format!(";*n{}", labels.iter().enumerate().map(named).collect::<String>())
+}
+
+/// Some steps that are not named, after which these first fluents are on: labels in any order.
+pub fn in_any_order(labels: usize) -> String {
+    format!(";*n?{}", balanced("&", &(0..labels).map(|i| format!("f{i:02}")).collect::<Vec<_>>()))
+}

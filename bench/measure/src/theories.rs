@@ -46,3 +46,11 @@ pub fn cartons() -> Theory {
 pub fn either() -> Theory {
     Theory { fluents: 4, start: 0, masks: vec![0, 0, 1, 0, 1, 0, 2, 0, 1, 0, 4, 0, 7, 0, 8, 0] }
 }
+
+/// The cartons, then stations beside the line that put marks of their own on and off: nothing of theirs is needed by a carton. Action 05 voids all labels.
+pub fn stations(actions: usize) -> Theory {
+    let mut masks = cartons().masks;
+    masks[20..].copy_from_slice(&[0, 0, 0, 31]);
+    masks.extend((6..actions).flat_map(|a| [0, 0, 1 << (5 + a % 20), 1 << (5 + a * 7 % 20)]));
+    Theory { fluents: 32, start: 0, masks }
+}

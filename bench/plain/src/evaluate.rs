@@ -2,11 +2,11 @@
 use crate::rule::Rule;
 use crate::world::{up_to, Tables};
 
-pub struct Evaluator<'a, const QUICK: bool> {
+pub struct Evaluator<'a> {
     text: &'a [u8],
     ends: &'a [u8; 256],
     done: &'a [u64; 64],
-    pub any: u64,
+    any: u64,
     lit: &'a [u64; 32],
 }
 
@@ -20,7 +20,7 @@ pub fn cross(from: u64, over: u64, all: u64, back: bool) -> u64 {
     }
 }
 
-impl<'a, const QUICK: bool> Evaluator<'a, QUICK> {
+impl<'a> Evaluator<'a> {
     pub fn new(rule: &'a Rule, tables: &'a Tables) -> Self {
         Evaluator { text: rule.text, ends: &rule.ends, done: &tables.done, any: tables.any, lit: &tables.lit }
     }
@@ -65,20 +65,18 @@ impl<'a, const QUICK: bool> Evaluator<'a, QUICK> {
         }
     }
 
-    /// Chains of the walk at a place. A star of a star is one star. Quickly: only the positions of the last round are gone on from.
+    /// Chains of the walk at a place. A star of a star is one star.
     fn star(&self, mut at: usize, from: u64, all: u64, back: bool) -> u64 {
         while self.sign(at) == b'*' {
             at += 1;
         }
         let mut held = from;
-        let mut last = from;
         loop {
-            let new = self.walk(at, if QUICK { last } else { held }, all, back) & !held;
-            if new == 0 {
+            let more = self.walk(at, held, all, back);
+            if more & !held == 0 {
                 return held;
             }
-            held |= new;
-            last = new;
+            held |= more;
         }
     }
 

@@ -8,8 +8,9 @@ pub struct Search<'a> {
     world: &'a World<'a>,
     rule: &'a Rule<'a>,
     trail: [u8; 64],
-    /// How often the job was asked.
+    /// How often the job was asked, and how often it may be: the search gives up where it would be more.
     turns: usize,
+    limit: usize,
 }
 
 /// The actions of a theory that are possible in a state, bit a for action a.
@@ -22,7 +23,7 @@ pub fn longest(world: &World, more: usize) -> usize {
     more.min(LOG_LIMIT - world.log.len())
 }
 
-impl Evaluator<'_, false> {
+impl Evaluator<'_> {
     /// The actions that the walk at a place asks for at the end, from some position of a set.
     fn asks(&self, at: usize, from: u64, end: usize) -> u64 {
         let waits = from >> end & 1 == 1;
@@ -43,16 +44,19 @@ impl Evaluator<'_, false> {
 impl Search<'_> {
     fn finished(&self, n: usize) -> bool {
         let tables = Tables::over(self.world, &self.trail[..n]);
-        Evaluator::<false>::new(self.rule, &tables).walk(0, 1, up_to(n), false) >> n & 1 == 1
+        Evaluator::new(self.rule, &tables).walk(0, 1, up_to(n), false) >> n & 1 == 1
     }
 
     fn tries(&self, n: usize) -> u64 {
         let tables = Tables::over(self.world, &self.trail[..n]);
-        doable(self.world, tables.last) & Evaluator::<false>::new(self.rule, &tables).asks(0, 1, n)
+        doable(self.world, tables.last) & Evaluator::new(self.rule, &tables).asks(0, 1, n)
     }
 
     /// The first sequence of exactly `left` actions behind the first n of the trail: whether there is one; it then stands there.
     fn complete(&mut self, n: usize, left: usize) -> bool {
+        if self.turns == self.limit {
+            return false;
+        }
         self.turns += 1;
         if left == 0 {
             return self.finished(n);
@@ -69,10 +73,10 @@ impl Search<'_> {
     }
 }
 
-/// The first sequence that finishes the job, in the front of `out`; and how often the job was asked on the way.
-pub fn first(world: &World, rule: &Rule, more: usize, out: &mut [u8]) -> (Option<usize>, usize) {
+/// The first sequence that finishes the job, in the front of `out`; and how often the job was asked on the way, `limit` times at most.
+pub fn first(world: &World, rule: &Rule, more: usize, limit: usize, out: &mut [u8]) -> (Option<usize>, usize) {
     let n = world.log.len();
-    let mut search = Search { world, rule, trail: [0; 64], turns: 0 };
+    let mut search = Search { world, rule, trail: [0; 64], turns: 0, limit };
     search.trail[..n].copy_from_slice(world.log);
     let length = (0..=longest(world, more)).find(|&k| search.complete(n, k));
     if let Some(k) = length {

@@ -3,20 +3,24 @@
 //! Same calls, same answers, same refusals: the log transposed into words, sets in and sets out over the rule's text, `<WT` by the converse, star as
 //! closure, a table of where each rule ends. Every call clears its own tables (done, lit, ends: 1,024 bytes); nothing is kept between calls.
 //!
-//! The calls with `quick_` go further than the proved library does: a star goes on from new positions only, and the tables of a search grow and shrink with
-//! its log.
+//! The calls with `quick_` go further than the proved library does: no ground is walked twice by a star and no test is asked twice; a search is told how long the
+//! rest of a job may be, tries one of several actions that do the same, and its tables grow and shrink with its log.
 
 mod evaluate;
 mod finish;
 mod grown;
+mod lengths;
+mod quick;
 mod rule;
+mod standins;
 mod world;
 
 pub use rule::Kind;
 
 use evaluate::Evaluator;
+use quick::Quick;
 use rule::Rule;
-use world::{Tables, World};
+use world::{up_to, Tables, World};
 
 /// A refusal's number.
 pub type Refusal = u8;
@@ -39,6 +43,12 @@ pub struct Reached {
     pub earliest: u32,
 }
 
+impl Reached {
+    fn of(set: u64) -> Self {
+        Reached { set, count: set.count_ones(), earliest: set.trailing_zeros() }
+    }
+}
+
 impl<'a> Job<'a> {
     fn world(&self) -> Result<World<'a>, Refusal> {
         World::checked(self.fluents, self.actions, self.start, self.masks, self.log)
@@ -53,25 +63,6 @@ impl<'a> Job<'a> {
             return Err(10);
         }
         Ok(())
-    }
-
-    #[inline(always)]
-    fn verdict_by<const QUICK: bool>(&self, test: &[u8], then: usize, now: usize) -> Result<bool, Refusal> {
-        let world = self.world()?;
-        let rule = self.rule(test, Kind::Test)?;
-        self.times(then, now)?;
-        let tables = Tables::over(&world, world.log);
-        Ok(Evaluator::<QUICK>::new(&rule, &tables).test(0, 1 << then, world::up_to(now)) != 0)
-    }
-
-    #[inline(always)]
-    fn reach_by<const QUICK: bool>(&self, walk: &[u8], then: usize, now: usize) -> Result<Reached, Refusal> {
-        let world = self.world()?;
-        let rule = self.rule(walk, Kind::Walk)?;
-        self.times(then, now)?;
-        let tables = Tables::over(&world, world.log);
-        let set = Evaluator::<QUICK>::new(&rule, &tables).walk(0, 1 << then, world::up_to(now), false);
-        Ok(Reached { set, count: set.count_ones(), earliest: set.trailing_zeros() })
     }
 
     fn to_finish<'t>(&self, job: &'t [u8], more: usize, room: usize) -> Result<(World<'a>, Rule<'t>), Refusal> {
@@ -89,42 +80,93 @@ impl<'a> Job<'a> {
     /// Whether a test is true at (then, now).
     #[inline(never)]
     pub fn verdict(&self, test: &[u8], then: usize, now: usize) -> Result<bool, Refusal> {
-        self.verdict_by::<false>(test, then, now)
+        let world = self.world()?;
+        let rule = self.rule(test, Kind::Test)?;
+        self.times(then, now)?;
+        let tables = Tables::over(&world, world.log);
+        Ok(Evaluator::new(&rule, &tables).test(0, 1 << then, up_to(now)) != 0)
+    }
+
+    #[inline(always)]
+    fn quick_verdict_by<const COUNT: bool>(&self, test: &[u8], then: usize, now: usize) -> Result<(bool, usize), Refusal> {
+        let world = self.world()?;
+        let rule = self.rule(test, Kind::Test)?;
+        self.times(then, now)?;
+        let tables = Tables::over(&world, world.log);
+        let ask = |slots: &mut [u64]| {
+            let mut quick = Quick::<COUNT>::new(&rule, &tables, slots);
+            (quick.test(0, 1 << then, up_to(now)) != 0, quick.visits)
+        };
+        Ok(if rule.keeps() { ask(&mut [0; 256]) } else { ask(&mut []) })
     }
 
     #[inline(never)]
     pub fn quick_verdict(&self, test: &[u8], then: usize, now: usize) -> Result<bool, Refusal> {
-        self.verdict_by::<true>(test, then, now)
+        Ok(self.quick_verdict_by::<false>(test, then, now)?.0)
+    }
+
+    /// How many signs `quick_verdict` visits.
+    pub fn verdict_visits(&self, test: &[u8], then: usize, now: usize) -> Result<usize, Refusal> {
+        Ok(self.quick_verdict_by::<true>(test, then, now)?.1)
     }
 
     /// The positions that a walk leads to from `then` with `now`.
     #[inline(never)]
     pub fn reach(&self, walk: &[u8], then: usize, now: usize) -> Result<Reached, Refusal> {
-        self.reach_by::<false>(walk, then, now)
+        let world = self.world()?;
+        let rule = self.rule(walk, Kind::Walk)?;
+        self.times(then, now)?;
+        let tables = Tables::over(&world, world.log);
+        Ok(Reached::of(Evaluator::new(&rule, &tables).walk(0, 1 << then, up_to(now), false)))
+    }
+
+    #[inline(always)]
+    fn quick_reach_by<const COUNT: bool>(&self, walk: &[u8], then: usize, now: usize) -> Result<(Reached, usize), Refusal> {
+        let world = self.world()?;
+        let rule = self.rule(walk, Kind::Walk)?;
+        self.times(then, now)?;
+        let tables = Tables::over(&world, world.log);
+        let ask = |slots: &mut [u64]| {
+            let mut quick = Quick::<COUNT>::new(&rule, &tables, slots);
+            (Reached::of(quick.walk(0, 1 << then, up_to(now), false)), quick.visits)
+        };
+        Ok(if rule.keeps() { ask(&mut [0; 256]) } else { ask(&mut []) })
     }
 
     #[inline(never)]
     pub fn quick_reach(&self, walk: &[u8], then: usize, now: usize) -> Result<Reached, Refusal> {
-        self.reach_by::<true>(walk, then, now)
+        Ok(self.quick_reach_by::<false>(walk, then, now)?.0)
+    }
+
+    /// How many signs `quick_reach` visits.
+    pub fn reach_visits(&self, walk: &[u8], then: usize, now: usize) -> Result<usize, Refusal> {
+        Ok(self.quick_reach_by::<true>(walk, then, now)?.1)
     }
 
     /// The first sequence of at most `more` actions that finishes the job: written to the front of `out`, its length returned.
     #[inline(never)]
     pub fn finish(&self, job: &[u8], more: usize, out: &mut [u8]) -> Result<usize, Refusal> {
         let (world, rule) = self.to_finish(job, more, out.len())?;
-        finish::first(&world, &rule, more, out).0.ok_or(11)
+        finish::first(&world, &rule, more, usize::MAX, out).0.ok_or(11)
     }
 
-    /// How often `finish` asks the job, where no call is refused before the search.
-    pub fn finish_turns(&self, job: &[u8], more: usize) -> Result<usize, Refusal> {
+    /// How often `finish` asks the job, counted up to a limit.
+    pub fn finish_turns(&self, job: &[u8], more: usize, limit: usize) -> Result<usize, Refusal> {
         let mut out = [0; 6];
         let (world, rule) = self.to_finish(job, more, out.len())?;
-        Ok(finish::first(&world, &rule, more, &mut out).1)
+        Ok(finish::first(&world, &rule, more, limit, &mut out).1)
     }
 
     #[inline(never)]
     pub fn quick_finish(&self, job: &[u8], more: usize, out: &mut [u8]) -> Result<usize, Refusal> {
         let (world, rule) = self.to_finish(job, more, out.len())?;
-        grown::first(&world, &rule, more, out).ok_or(11)
+        grown::first(&world, &rule, more, out).0.ok_or(11)
+    }
+
+    /// How often `quick_finish` asks the job.
+    pub fn quick_finish_turns(&self, job: &[u8], more: usize) -> Result<usize, Refusal> {
+        let mut out = [0; 6];
+        let (world, rule) = self.to_finish(job, more, out.len())?;
+        Ok(grown::first(&world, &rule, more, &mut out).1)
     }
 }

@@ -48,6 +48,39 @@ impl<'t> Rule<'t> {
         }
         Ok(Rule { text, ends: r.ends })
     }
+
+    /// The number behind the sign at a place.
+    #[inline]
+    pub fn named(&self, at: usize) -> usize {
+        usize::from(self.text[at + 1] - b'0') * 10 + usize::from(self.text[at + 2] - b'0')
+    }
+
+    /// Where the second of two parts begins.
+    #[inline]
+    pub fn second(&self, at: usize) -> usize {
+        usize::from(self.ends[(at + 1) & 255])
+    }
+
+    /// Whether the quick evaluator has anything to keep: a star in a star, or a `?` in a star or in the test of another. It decides costs, no answer.
+    pub fn keeps(&self) -> bool {
+        if self.text.iter().filter(|&&sign| sign == b'*' || sign == b'?').count() < 2 {
+            return false;
+        }
+        let mut starred = 0;
+        let mut within = 0;
+        for (at, &sign) in self.text.iter().enumerate() {
+            let end = usize::from(self.ends[at & 255]);
+            match sign {
+                b'*' if at < starred && self.text[at - 1] != b'*' => return true,
+                b'?' if at < within => return true,
+                b'*' => starred = end,
+                b'?' => {}
+                _ => continue,
+            }
+            within = within.max(end);
+        }
+        false
+    }
 }
 
 impl Reader<'_> {

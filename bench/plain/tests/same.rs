@@ -21,19 +21,19 @@ fn place(d: &mut Dice, log: &[u8]) -> usize {
 fn questions(d: &mut Dice, i: &Input) {
     let now = place(d, &i.log);
     let then = if now < 64 { d.below(now + 1) + d.below(2) * d.below(2) } else { 0 };
-    let walk = make::rule(d, 1, i.fluents, i.actions);
+    let walk = make::rule(d, 1, i);
     let other = oracle::ask::reach(i.fluents, i.actions, i.start, &i.masks, &i.log, &walk, then, now);
     let other = other.map(|r| Reached { set: r.set, count: r.count, earliest: r.earliest });
     assert_eq!(job(i).reach(&walk, then, now), other, "{i:?} {walk:?} {then} {now}");
     assert_eq!(job(i).quick_reach(&walk, then, now), other, "{i:?} {walk:?} {then} {now}, quick");
-    let test = make::rule(d, 0, i.fluents, i.actions);
+    let test = make::rule(d, 0, i);
     let other = oracle::ask::verdict(i.fluents, i.actions, i.start, &i.masks, &i.log, &test, then, now);
     assert_eq!(job(i).verdict(&test, then, now), other, "{i:?} {test:?} {then} {now}");
     assert_eq!(job(i).quick_verdict(&test, then, now), other, "{i:?} {test:?} {then} {now}, quick");
 }
 
 fn finishes(d: &mut Dice, i: &Input) {
-    let text = make::rule(d, 2, i.fluents, i.actions);
+    let text = make::rule(d, 2, i);
     let more = if d.once_in(20) { 7 } else { d.below(if i.actions > 6 { 3 } else { 5 }) };
     let room = more + d.below(3) - d.below(2).min(more);
     let other = oracle::finish::finish(i.fluents, i.actions, i.start, &i.masks, &i.log, &text, more, room);
