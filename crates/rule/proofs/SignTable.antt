@@ -3,12 +3,13 @@ use mathlib.Core.Path.{_≡_, refl, sym, ap, subst, subst⁻¹, _∙_}
 use mathlib.Core.Logic.{⊎-elim}
 use mathlib.Core.Bool.{Bool, true, false, cond}
 use mathlib.Core.List.{List, [], _∷_}
-use Prim.Native.Nat.{ℕ}
-use lib.Dec.{eqb}
+use Prim.Native.Nat.{ℕ, _≤_, _<_}
+use lib.Dec.{eqb, leb, ltb}
 use lib.ListN.{getD}
 use types.Run.{OneOf}
 use denote.Enum.Declared.{tagOf}
-use borrow.Author.Tests.{eqb-true, eqb-false}
+use native.Mathlib.Omega.{arith}
+use borrow.Author.Tests.{eqb-true, eqb-false, ne-eqb, leb-false, ltb-false}
 use Rattle.rule.specs.declared.signs.Sign.{Sign}
 use Rattle.rule.specs.declared.signs.Sign.the-variants.{Step, NamedStep, OverWalk, OverTest, TwoWalks, Constant, NamedFluent, Denial, TwoTests, WalkThenTest, Stranger}
 use Rattle.rule.specs.Signs.{Entry, lookUp, signTable, signOf}
@@ -58,6 +59,42 @@ signs b =
 
 pub sign-is : {b : ℕ} {s : Sign} → s ≡ signOf b → SignIs b s
 sign-is {b} e = subst (SignIs b) (sym e) (signs b)
+
+-- the byte is no row's of those whose bytes lie from one byte on and before another
+abbrev pub Apart : ℕ → ℕ → List Entry → ℕ → Type 0
+Apart lo hi [] b = Unit {0}
+Apart lo hi (row ∷ rows) b =
+    cond (leb lo (row .byte))
+    (cond (ltb (row .byte) hi) ((b ≡ row .byte → ⊥) × Apart lo hi rows b) (Apart lo hi rows b))
+    (Apart lo hi rows b)
+
+apart-from-all : (lo hi : ℕ) (rows : List Entry) (b : ℕ) → lo ≤ b → b < hi → Apart lo hi rows b → Stranger ≡ lookUp rows b
+apart-from-all lo hi [] b l h a = refl
+apart-from-all lo hi (row ∷ rows) b l h a =
+    go (apart-from-all lo hi rows b l h) (leb lo (row .byte)) refl (ltb (row .byte) hi) refl a
+  where
+    passed : (b ≡ row .byte → ⊥) → Stranger ≡ lookUp rows b → Stranger ≡ cond (eqb b (row .byte)) (row .sign) (lookUp rows b)
+    passed n e = subst⁻¹ (λ (t : Bool). Stranger ≡ cond t (row .sign) (lookUp rows b)) (ne-eqb b (row .byte) n) e
+
+    go : (Apart lo hi rows b → Stranger ≡ lookUp rows b)
+        → (s : Bool)
+        → leb lo (row .byte) ≡ s
+        → (t : Bool)
+        → ltb (row .byte) hi ≡ t
+        → cond s (cond t ((b ≡ row .byte → ⊥) × Apart lo hi rows b) (Apart lo hi rows b)) (Apart lo hi rows b)
+        → Stranger ≡ cond (eqb b (row .byte)) (row .sign) (lookUp rows b)
+    go further true _ true _ a = passed (a .0) (further (a .1))
+    go further true _ false e a =
+        let above = ltb-false (row .byte) hi e in
+        passed (λ q. omega (arith, q, above)) (further a)
+    go further false e t _ a =
+        let below = leb-false lo (row .byte) e in
+        passed (λ q. omega (arith, q, below)) (further a)
+
+-- what lies between two bytes, and is no sign that lies there, is no sign
+pub stranger : (lo hi b : ℕ) → lo ≤ b → b < hi → Apart lo hi signTable b → Stranger ≡ signOf b
+unfolding signOf
+stranger lo hi b l h a = apart-from-all lo hi signTable b l h a
 
 -- An arm of a match that takes several signs is told the place of its sign among all.
 abbrev signAt : ℕ → Sign

@@ -1,5 +1,6 @@
 // The table of signs: which bytes are signs of a walk, which of a test, and what follows each. Reader, table of ends and rewriter go by it.
 ghost use mathlib.Core.Path.{_≡_};
+ghost use Prim.Native.Nat.{_≤_, _<_};
 ghost use Rattle.rule.specs.Signs.{signOf, turnsBack};
 
 // A byte as a sign, by what follows it: five of a walk, five of a test. No byte is a sign of both.
@@ -28,21 +29,74 @@ pub enum Sign {
     Stranger,
 }
 
-pub fn sign_of(byte: u8) -> Sign
+// The table in four parts, by the order of the bytes: below `-` (45), ..
+fn up_to_star(byte: u8) -> Sign
+    requires { ⌜ byte < 45 ⌝ }
     ensures { λ r. ⌜ r ≡ signOf byte ⌝ }
 {
     match byte {
-        b'n' | b'u' => Sign::Step,
-        b'a' | b'r' => Sign::NamedStep,
-        b'*' | b'-' => Sign::OverWalk,
-        b'?' => Sign::OverTest,
-        b';' | b'|' => Sign::TwoWalks,
-        b'1' => Sign::Constant,
-        b'f' => Sign::NamedFluent,
         b'!' => Sign::Denial,
         b'&' => Sign::TwoTests,
-        b'<' => Sign::WalkThenTest,
+        b'*' => Sign::OverWalk,
         _ => Sign::Stranger,
+    }
+}
+
+// .. from there to below `a` (97), ..
+fn minus_to_question(byte: u8) -> Sign
+    requires { ⌜ (45 ≤ byte) × (byte < 97) ⌝ }
+    ensures { λ r. ⌜ r ≡ signOf byte ⌝ }
+{
+    match byte {
+        b'-' => Sign::OverWalk,
+        b'1' => Sign::Constant,
+        b';' => Sign::TwoWalks,
+        b'<' => Sign::WalkThenTest,
+        b'?' => Sign::OverTest,
+        _ => Sign::Stranger,
+    }
+}
+
+// .. from there to below `r` (114), ..
+fn a_to_n(byte: u8) -> Sign
+    requires { ⌜ (97 ≤ byte) × (byte < 114) ⌝ }
+    ensures { λ r. ⌜ r ≡ signOf byte ⌝ }
+{
+    match byte {
+        b'a' => Sign::NamedStep,
+        b'f' => Sign::NamedFluent,
+        b'n' => Sign::Step,
+        _ => Sign::Stranger,
+    }
+}
+
+// .. and from there on.
+fn r_to_bar(byte: u8) -> Sign
+    requires { ⌜ 114 ≤ byte ⌝ }
+    ensures { λ r. ⌜ r ≡ signOf byte ⌝ }
+{
+    match byte {
+        b'r' => Sign::NamedStep,
+        b'u' => Sign::Step,
+        b'|' => Sign::TwoWalks,
+        _ => Sign::Stranger,
+    }
+}
+
+// A match of all fourteen signs the compiler would leave a call of its own, and each sign would be branched on twice; the four parts it sets into whoever asks.
+pub fn sign_of(byte: u8) -> Sign
+    ensures { λ r. ⌜ r ≡ signOf byte ⌝ }
+{
+    if byte < b'a' {
+        if byte < b'-' {
+            up_to_star(byte)
+        } else {
+            minus_to_question(byte)
+        }
+    } else if byte < b'r' {
+        a_to_n(byte)
+    } else {
+        r_to_bar(byte)
     }
 }
 
