@@ -20,7 +20,7 @@ use Rattle.meaning.proofs.Rewriting.{rule-figures, rule-opens, rule-twice, rule
 use Rattle.rule.specs.Outcome.{Spelled, With}
 use Rattle.rule.proofs.Spread.{some-text}
 use Rattle.theory.specs.declared.Counts.{Counts}
-use Rattle.normal.specs.Answer.{normalText, normalRows, NormalWritten, NormalOutcome}
+use Rattle.normal.specs.Answer.{normalText, normalRows, NormalWritten, NormalAnswered}
 
 -- the written bytes are the normal form of the rule that the text spells
 bytes-written : {kind : Kind} {bytes before : List ℕ} {count : ℕ} {after : List ℕ} (h : NormalWritten kind bytes before count after) → take count after ≡ normalText (h .rule)
@@ -139,7 +139,7 @@ module _ {kind : Kind} {bytes : List ℕ} {counts : Counts} {before : List ℕ} 
 
   -- so it is accepted, and changes nothing
   pub again : {before′ after′ : List ℕ} {number′ count′ : ℕ}
-      → NormalOutcome kind (take count after) counts before′ number′ count′ after′
+      → NormalAnswered kind (take count after) counts before′ number′ count′ after′
       → count ≤ length before′
       → (number′ ≡ 0) × (count′ ≡ count) × (take count′ after′ ≡ take count after)
   again (inr i) l =
@@ -149,7 +149,7 @@ module _ {kind : Kind} {bytes : List ℕ} {counts : Counts} {before : List ℕ} 
 
   -- and an output that holds them already, with whatever is behind them, holds the same after it
   pub again-over : {before′ after′ : List ℕ} {number′ count′ : ℕ}
-      → NormalOutcome kind (take count after) counts before′ number′ count′ after′
+      → NormalAnswered kind (take count after) counts before′ number′ count′ after′
       → before′ ≡ after
       → after′ ≡ after
   again-over (inr i) e =

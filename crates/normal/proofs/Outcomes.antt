@@ -16,7 +16,7 @@ use Rattle.refusal.proofs.Numbers.{one-number, some-number}
 use Rattle.theory.specs.declared.Counts.{Counts}
 use Rattle.rule.specs.Outcome.{Spelled, With, ruleRows}
 use Rattle.normal.specs.declared.NormalAnswer.{NormalAnswer}
-use Rattle.normal.specs.Answer.{normalText, numberGiven, countGiven, outputRows, normalRows, NormalOutcome}
+use Rattle.normal.specs.Answer.{normalText, numberGiven, countGiven, outputRows, normalRows, NormalAnswered}
 use Rattle.normal.specs.Whole.{ByRoom}
 
 -- What the checks make, one after the other.
@@ -28,12 +28,12 @@ module _ (kind : Kind) (bytes : List ℕ) (counts : Counts) (before : List ℕ) 
   second = outputRows kind bytes (length before)
 
   -- the rule is refused
-  pub rule-held : {number : ℕ} → Refused first number → NormalOutcome kind bytes counts before number noCount before
+  pub rule-held : {number : ℕ} → Refused first number → NormalAnswered kind bytes counts before number noCount before
   rule-held r = inl (record { refused = refused-first first second r; blank = record { none = refl; same = refl } })
 
   module _ (ok : Accepted first) (rule : Rule) (spells : Opens kind bytes rule []) where
     -- the output is too short
-    short-held : length before < length (normalText rule) → NormalOutcome kind bytes counts before 12 noCount before
+    short-held : length before < length (normalText rule) → NormalAnswered kind bytes counts before 12 noCount before
     short-held l = inl (record {
       refused = refused-second first second ok (here (record { rule = rule; spells = spells; faulty = l }));
       blank = record { none = refl; same = refl };
@@ -44,7 +44,7 @@ module _ (kind : Kind) (bytes : List ℕ) (counts : Counts) (before : List ℕ) 
     long-enough l w = omega (arith, w .faulty, ap (λ (r : Rule). length (normalText r)) (unique-reading (w .spells) spells .0))
 
     written-out : {count : ℕ} {after : List ℕ} → count ≡ length (normalText rule) → count ≤ length before → after ≡ sets before 0 (normalText rule)
-        → NormalOutcome kind bytes counts before 0 count after
+        → NormalAnswered kind bytes counts before 0 count after
     written-out {count} {after} c l w = inr (record {
       none = refl;
       accepted = accepted-both first second ok (passes (long-enough (omega arith)) accepts);
@@ -57,9 +57,9 @@ module _ (kind : Kind) (bytes : List ℕ) (counts : Counts) (before : List ℕ) 
     })
 
     -- whichever it is
-    pub by-room : (a : NormalAnswer) (after : List ℕ) → ByRoom rule before a after → NormalOutcome kind bytes counts before (numberGiven a) (countGiven a) after
+    pub by-room : (a : NormalAnswer) (after : List ℕ) → ByRoom rule before a after → NormalAnswered kind bytes counts before (numberGiven a) (countGiven a) after
     by-room (NormalAnswer.Refused why) after h =
-        subst₂ (λ (n : ℕ) (l : List ℕ). NormalOutcome kind bytes counts before n noCount l) (sym (h .0)) (sym (h .2)) (short-held (h .1))
+        subst₂ (λ (n : ℕ) (l : List ℕ). NormalAnswered kind bytes counts before n noCount l) (sym (h .0)) (sym (h .2)) (short-held (h .1))
     by-room (NormalAnswer.Written n) after h = written-out (h .0) (h .1) (h .2)
 
 -- its numbers rise
@@ -68,7 +68,7 @@ normal-rises kind bytes counts room = refl
 
 -- The contract leaves one outcome: number, count and bytes.
 pub normal-determined : {kind : Kind} {bytes : List ℕ} {counts : Counts} {before : List ℕ} {number number′ count count′ : ℕ} {after after′ : List ℕ}
-    → NormalOutcome kind bytes counts before number count after → NormalOutcome kind bytes counts before number′ count′ after′
+    → NormalAnswered kind bytes counts before number count after → NormalAnswered kind bytes counts before number′ count′ after′
     → (number ≡ number′) × (count ≡ count′) × (after ≡ after′)
 normal-determined {before = before} o o′ =
     answered-determined o o′
@@ -88,6 +88,6 @@ same-answer (NormalAnswer.Written n) (NormalAnswer.Refused why) e f = absurd (so
 same-answer (NormalAnswer.Written n) (NormalAnswer.Written m) e f = ap NormalAnswer.Written f
 
 pub answer-determined : {kind : Kind} {bytes : List ℕ} {counts : Counts} {before after after′ : List ℕ} (a a′ : NormalAnswer)
-    → NormalOutcome kind bytes counts before (numberGiven a) (countGiven a) after → NormalOutcome kind bytes counts before (numberGiven a′) (countGiven a′) after′
+    → NormalAnswered kind bytes counts before (numberGiven a) (countGiven a) after → NormalAnswered kind bytes counts before (numberGiven a′) (countGiven a′) after′
     → (a ≡ a′) × (after ≡ after′)
 answer-determined a a′ h h′ = let (n, c, e) = normal-determined h h′ in (same-answer a a′ n c, e)

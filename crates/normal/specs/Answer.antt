@@ -44,6 +44,6 @@ pub record NormalWritten (kind : Kind) (bytes before : List ℕ) (count : ℕ) (
   pub counted : count ≡ length (normalText rule)
   pub written : after ≡ normalText rule ++ drop (length (normalText rule)) before
 
-abbrev pub NormalOutcome : Kind → List ℕ → Counts → List ℕ → ℕ → ℕ → List ℕ → Type 0
-NormalOutcome kind bytes counts before number count after =
+abbrev pub NormalAnswered : Kind → List ℕ → Counts → List ℕ → ℕ → ℕ → List ℕ → Type 0
+NormalAnswered kind bytes counts before number count after =
     Answered (normalRows kind bytes counts (length before)) number (Untouched before count after) (NormalWritten kind bytes before count after)

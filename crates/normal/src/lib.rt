@@ -1,6 +1,6 @@
 // The rewriter to converse normal form: `-` is pushed inward until none is left. Knows the rule's text and lent output; no theory and no log.
 ghost use Rattle.rule.specs.Outcome.{kindOf};
-ghost use Rattle.normal.specs.Answer.{numberGiven, countGiven, NormalOutcome};
+ghost use Rattle.normal.specs.Answer.{numberGiven, countGiven, NormalAnswered};
 ghost use Rattle.normal.specs.Whole.{ShortRule, SpelledWhole, RuleWritten, WrittenOut};
 
 mod write; // write.rt: bytes to the lent output
@@ -49,7 +49,7 @@ fn write_out(text: &[u8], kind: Kind, out: &mut [u8]) -> NormalAnswer
 
 // The normal form of the rule that the text spells, from the front of the output; the rest of the output keeps its bytes.
 pub fn normal(text: &[u8], kind: Kind, counts: Counts, out: &mut [u8]) -> NormalAnswer
-    ensures { λ r. ⌜ NormalOutcome (kindOf kind) (now (text .entry)) counts (now (out .entry)) (numberGiven r) (countGiven r) (now (out .exit)) ⌝ }
+    ensures { λ r. ⌜ NormalAnswered (kindOf kind) (now (text .entry)) counts (now (out .entry)) (numberGiven r) (countGiven r) (now (out .exit)) ⌝ }
 {
     match check_rule(text, kind, counts) {
         Check::Refused(why) => NormalAnswer::Refused(why),

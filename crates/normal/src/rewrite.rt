@@ -1,13 +1,11 @@
 // The rewriter: a walk function and a test function that call one another, from the rule's text to lent output. What follows a sign is asked of the table of
 // signs, and where a second part begins of the table of ends.
 ghost use mathlib.Core.Path.{_≡_};
-ghost use Prim.Native.Nat.{_≤_};
-ghost use lib.ListN.{getD};
-ghost use Rattle.meaning.specs.Limits.{textLimit};
 ghost use Rattle.normal.specs.Sign.{facingSign, swaps, inOrder};
 ghost use Rattle.normal.specs.Place.{WalkToWrite, TestToWrite, NumberHere, WalkWritten, TestWritten, NumberWritten};
 use super::write::put;
 use rule::ends::ENDS_ROOM;
+use rule::ends::second;
 use rule::signs::Sign;
 use rule::signs::sign_of;
 
@@ -42,20 +40,6 @@ fn number(text: &[u8], at: usize, out: &mut [u8], to: usize) -> usize
     put(out, to, text[at]);
     put(out, to + 1, text[at + 1]);
     to + 2
-}
-
-fn wide(b: u8) -> usize
-    ensures { λ r. ⌜ r ≡ b ⌝ }
-{
-    b as usize
-}
-
-// Where the rule at a place ends.
-fn end(ends: &[u8; ENDS_ROOM], at: usize) -> usize
-    requires { ⌜ at ≤ textLimit ⌝ }
-    ensures { λ r. ⌜ r ≡ getD (now (ends .entry)) at 0 ⌝ }
-{
-    wide(ends[at])
 }
 
 // Of a sequence under a converse the second part comes first.
@@ -101,7 +85,7 @@ pub(crate) fn walk(
         Sign::OverWalk => walk(text, ends, from, back, out, next),
         Sign::OverTest => test(text, ends, from, out, next),
         _ => {
-            let middle = end(ends, from);
+            let middle = second(ends, at);
             let parts = order(sign, back, from, middle);
             let first = parts.first;
             let second = parts.second;
@@ -131,12 +115,12 @@ pub(crate) fn test(
         Sign::NamedFluent => number(text, from, out, next),
         Sign::Denial => test(text, ends, from, out, next),
         Sign::TwoTests => {
-            let middle = end(ends, from);
+            let middle = second(ends, at);
             let done = test(text, ends, from, out, next);
             test(text, ends, middle, out, done)
         }
         _ => {
-            let middle = end(ends, from);
+            let middle = second(ends, at);
             let done = walk(text, ends, from, false, out, next);
             test(text, ends, middle, out, done)
         }

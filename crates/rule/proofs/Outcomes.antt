@@ -23,7 +23,7 @@ use Rattle.rule.specs.declared.answer.Read.{Read}
 use Rattle.rule.specs.declared.judge.Surveyed.{Surveyed}
 use Rattle.rule.specs.Facts.{factsOf}
 use Rattle.rule.specs.Read.{ReadAt}
-use Rattle.rule.specs.Outcome.{Spelled, Unspelled, With, textRows, ruleRows, bytesFrom, PartAt, ReadOutcome}
+use Rattle.rule.specs.Outcome.{Spelled, Unspelled, With, textRows, ruleRows, bytesFrom, PartAt, ReadAnswered}
 use Rattle.rule.specs.Judged.{Fitting, SurveyedAs, Opening, factRows, JudgedAs}
 use Rattle.rule.proofs.Answers.{text-some, found-within}
 
@@ -177,7 +177,7 @@ module _ (kind : Kind) (text : RefT (List ℕ)) (counts : Counts) (f : Facts) (f
   part-is =
       ap (λ (n : ℕ). drop n (now text)) told-end ∙ ap (drop (length (spelling (fit .rule)))) (fit .spells .1 .spells) ∙ drop-append-seam (spelling (fit .rule)) (fit .spells .0)
 
-  pub handed-back : {part : RefT (List ℕ)} → PartAt text (f .end) (bytesFrom (f .end) (now text)) part → ReadOutcome kind text counts 0 part
+  pub handed-back : {part : RefT (List ℕ)} → PartAt text (f .end) (bytesFrom (f .end) (now text)) part → ReadAnswered kind text counts 0 part
   handed-back p =
       inr (record {
         none = refl;
@@ -244,7 +244,7 @@ same-part {text} s h p q = (
 )
 
 pub read-rule-determined : (kind : Kind) (text : RefT (List ℕ)) (counts : Counts) (n n′ : ℕ) (part part′ : RefT (List ℕ))
-    → ReadOutcome kind text counts n part → ReadOutcome kind text counts n′ part′ → (n ≡ n′) × (part .ptr ≡ part′ .ptr) × (now part ≡ now part′)
+    → ReadAnswered kind text counts n part → ReadAnswered kind text counts n′ part′ → (n ≡ n′) × (part .ptr ≡ part′ .ptr) × (now part ≡ now part′)
 read-rule-determined kind text counts n n′ part part′ o o′ =
     answered-determined o o′
     (λ e p q. let same = same-part refl refl p q in (e, same .0, same .1))

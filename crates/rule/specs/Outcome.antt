@@ -64,5 +64,5 @@ pub record Unread (kind : meaning.Kind) (text part : RefT (List ℕ)) : Type 0 w
   pub from : PartAt text (length (spelling rule)) rest part
 
 -- what `read_rule` answers; refused, it has "an empty part where a part is handed back"
-abbrev pub ReadOutcome : meaning.Kind → RefT (List ℕ) → Counts → ℕ → RefT (List ℕ) → Type 0
-ReadOutcome kind text counts number part = Answered (ruleRows false kind (now text) counts) number (PartAt text 0 [] part) (Unread kind text part)
+abbrev pub ReadAnswered : meaning.Kind → RefT (List ℕ) → Counts → ℕ → RefT (List ℕ) → Type 0
+ReadAnswered kind text counts number part = Answered (ruleRows false kind (now text) counts) number (PartAt text 0 [] part) (Unread kind text part)

@@ -1,5 +1,8 @@
 // Where each rule of a text ends: a byte for each place, filled from the right. Whoever has read a rule finds by it where a second part begins.
 ghost use mathlib.Core.Path.{_≡_};
+ghost use Prim.Native.Nat.{_+_, _≤_};
+ghost use lib.ListN.{getD};
+ghost use Rattle.meaning.specs.Limits.{textLimit};
 ghost use Rattle.rule.specs.Ends.{TableFrom, endAt, FillOutcome};
 use crate::TEXT_LIMIT;
 use crate::signs::Sign;
@@ -50,4 +53,19 @@ pub fn fill_ends(text: &[u8], ends: &mut [u8])
         let end = end_at(text, ends, at);
         ends[at] = end;
     }
+}
+
+fn wide(end: u8) -> usize
+    ensures { λ r. ⌜ r ≡ end ⌝ }
+{
+    end as usize
+}
+
+// Where the second part of the sign at a place begins: behind the first.
+pub fn second(ends: &[u8; ENDS_ROOM], at: usize) -> usize
+    requires { ⌜ at + 1 ≤ textLimit ⌝ }
+    ensures { λ r. ⌜ r ≡ getD (now (ends .entry)) (at + 1) 0 ⌝ }
+{
+    let first = at + 1;
+    wide(ends[first])
 }

@@ -1,7 +1,7 @@
 // Reads a rule: whether it fits, and where it ends. Knows the text alone; what a rule means is another crate's.
 ghost use mathlib.Core.Bool.{true};
 ghost use Rattle.theory.specs.Check.{Settled};
-ghost use Rattle.rule.specs.Outcome.{kindOf, ruleRows, ReadOutcome};
+ghost use Rattle.rule.specs.Outcome.{kindOf, ruleRows, ReadAnswered};
 
 pub mod signs; // signs.rt: the table of signs
 mod answer; // answer.rt: the facts of a rule
@@ -35,7 +35,7 @@ pub fn check_rule(text: &[u8], kind: Kind, counts: Counts) -> Check
 
 // Reads one rule and hands back the unread rest, a part of the same text; `refusal` is the number of the refusal, or 0.
 pub fn read_rule<'a>(text: &'a [u8], kind: Kind, counts: Counts, refusal: &mut u8) -> &'a [u8]
-    ensures { λ r. ⌜ ReadOutcome (kindOf kind) (text .entry) counts (now (refusal .exit)) r ⌝ }
+    ensures { λ r. ⌜ ReadAnswered (kindOf kind) (text .entry) counts (now (refusal .exit)) r ⌝ }
 {
     match judge::survey(text, kind, counts, false) {
         Surveyed::Refused(why) => {

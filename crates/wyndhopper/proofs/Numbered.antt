@@ -9,7 +9,7 @@ use lib.ListN.{length}
 use Rattle.meaning.specs.Rule.{Kind, testKind, walkKind, jobKind}
 use Rattle.meaning.specs.Refusal.{Refused, noCount}
 use Rattle.theory.specs.declared.Counts.{Counts}
-use Rattle.normal.specs.Answer.{NormalOutcome}
+use Rattle.normal.specs.Answer.{NormalAnswered}
 use Rattle.wyndhopper.specs.Kinds.{kindAt, noKindRows}
 use Rattle.wyndhopper.specs.Exported.{RestBy, RestExported, NormalBy, NormalExported}
 
@@ -37,7 +37,7 @@ module _ {counts : Counts} {number : ℕ} where
   no-rest k bytes e r = subst⁻¹ (λ (o : Option Kind). RestBy o bytes counts number (length bytes)) e (r, refl)
 
   pub normal-at : {k j : ℕ} {kind : Kind} {bytes before : List ℕ} {count : ℕ} {after : List ℕ} → k ≡ j → kindAt j ≡ some kind
-      → NormalOutcome kind bytes counts before number count after → NormalExported k bytes counts before number count after
+      → NormalAnswered kind bytes counts before number count after → NormalExported k bytes counts before number count after
   normal-at {bytes = bytes} {before = before} {count = count} {after = after} e f =
       subst⁻¹ (λ (o : Option Kind). NormalBy o bytes counts before number count after) (ap kindAt e ∙ f)
 

@@ -15,7 +15,7 @@ use Rattle.meaning.specs.Rule.{Kind, Opens, text}
 use Rattle.theory.specs.Subject.{Subject}
 use Rattle.theory.specs.declared.Counts.{Counts}
 use Rattle.ask.specs.Reach.{ReachAnswered}
-use Rattle.rule.specs.Outcome.{ReadOutcome}
+use Rattle.rule.specs.Outcome.{ReadAnswered}
 use Rattle.wyndhopper.specs.Exported.{RestBy}
 
 pub reach-small : {s : Subject} {bytes : List ℕ} {then now number set count earliest : ℕ}
@@ -28,7 +28,7 @@ reach-small (inr r) =
     )
 
 -- where the part that is handed back begins
-pub rest-of : (kind : Kind) (whole : RefT (List ℕ)) (counts : Counts) (number : ℕ) (part : RefT (List ℕ)) → ReadOutcome kind whole counts number part
+pub rest-of : (kind : Kind) (whole : RefT (List ℕ)) (counts : Counts) (number : ℕ) (part : RefT (List ℕ)) → ReadAnswered kind whole counts number part
     → (length (now part) ≤ length (now whole)) × RestBy (some kind) (now whole) counts number (length (now whole) - length (now part))
 rest-of kind whole counts number part (inl r) =
     let none : length (now part) ≡ 0 = ap length (r .blank .bytes) in

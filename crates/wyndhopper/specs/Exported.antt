@@ -11,7 +11,7 @@ use Rattle.meaning.specs.Refusal.{Answered, Refused, noCount}
 use Rattle.theory.specs.Subject.{Subject, settingOf, subjectOf}
 use Rattle.theory.specs.declared.Counts.{Counts}
 use Rattle.rule.specs.Outcome.{ruleRows}
-use Rattle.normal.specs.Answer.{NormalOutcome}
+use Rattle.normal.specs.Answer.{NormalAnswered}
 use Rattle.sheet.specs.Answer.{Handed, Refuses}
 use Rattle.sheet.specs.declared.Parsed.{Parsed}
 use Rattle.wyndhopper.specs.Kinds.{kindAt, noKindRows}
@@ -50,7 +50,7 @@ abbrev pub RestExported : ℕ → List ℕ → Counts → ℕ → ℕ → Type 0
 RestExported kind bytes counts number rest = RestBy (kindAt kind) bytes counts number rest
 
 abbrev pub NormalBy : Option Kind → List ℕ → Counts → List ℕ → ℕ → ℕ → List ℕ → Type 0
-NormalBy (some kind) bytes counts before number count after = NormalOutcome kind bytes counts before number count after
+NormalBy (some kind) bytes counts before number count after = NormalAnswered kind bytes counts before number count after
 NormalBy none bytes counts before number count after = Refused (noKindRows counts) number × (count ≡ noCount) × (after ≡ before)
 
 abbrev pub NormalExported : ℕ → List ℕ → Counts → List ℕ → ℕ → ℕ → List ℕ → Type 0

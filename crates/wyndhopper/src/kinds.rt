@@ -1,7 +1,7 @@
 // The two calls that have a kind as a number: they pick the kind and hand on, and know no rule.
 ghost use mathlib.Core.Option.{some};
 ghost use Rattle.rule.specs.Outcome.{kindOf};
-ghost use Rattle.normal.specs.Answer.{NormalOutcome};
+ghost use Rattle.normal.specs.Answer.{NormalAnswered};
 ghost use Rattle.meaning.specs.Refusal.{Refused};
 ghost use Rattle.wyndhopper.specs.Kinds.{noKindRows};
 ghost use Rattle.wyndhopper.specs.Exported.{RestBy, RestExported, NormalExported};
@@ -44,7 +44,7 @@ pub(crate) fn read(text: &[u8], kind: u8, counts: Counts, rest: &mut usize) -> u
 }
 
 fn normal_as(text: &[u8], kind: Kind, counts: Counts, out: &mut [u8], count: &mut usize) -> u8
-    ensures { λ r. ⌜ NormalOutcome (kindOf kind) (now (text .entry)) counts (now (out .entry)) r (now (count .exit)) (now (out .exit)) ⌝ }
+    ensures { λ r. ⌜ NormalAnswered (kindOf kind) (now (text .entry)) counts (now (out .entry)) r (now (count .exit)) (now (out .exit)) ⌝ }
 {
     match normal::normal(text, kind, counts, out) {
         NormalAnswer::Refused(why) => {

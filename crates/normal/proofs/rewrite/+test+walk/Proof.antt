@@ -28,11 +28,11 @@ use Rattle.normal.proofs.rewrite.+test+walk.Lts-test as test-lts
 use Rattle.normal.proofs.rewrite.walk.Reads as walk
 use Rattle.normal.proofs.rewrite.walk.Kinds as walk-kinds
 use Rattle.normal.proofs.rewrite.+test+walk.Lts-walk as walk-lts
-use Rattle.normal.proofs.rewrite.end.Reads as end
 use Rattle.normal.proofs.rewrite.facing.Reads as facing
 use Rattle.normal.proofs.rewrite.number.Reads as number
 use Rattle.normal.proofs.rewrite.order.Reads as order
 use Rattle.normal.proofs.write.put.Reads as put
+use Rattle.rule.proofs.ends.second.Reads as second-part
 use Rattle.rule.proofs.signs.sign_of.Reads as sign-of
 use Rattle.normal.proofs.rewrite.+test+walk.{statement}
 use Rattle.normal.proofs.rewrite.+test+walk.Tie.{close}
@@ -57,10 +57,10 @@ abbrev walk-below : ℕ → In 3 walk-kinds.ps
 walk-below t = and 3 walk-kinds.ps (falls 3 walk-kinds.ps _<_ μ-walk t) walk.Pre
 
 abbrev test-calls : ℕ → test-lts.Claims
-test-calls t = (put.Asked, put.Learnt, sign-of.Asked, sign-of.Learnt, number.Asked, number.Learnt, test-below t, test.Post, end.Asked, end.Learnt, walk-below t, walk.Post)
+test-calls t = (put.Asked, put.Learnt, sign-of.Asked, sign-of.Learnt, number.Asked, number.Learnt, test-below t, test.Post, second-part.Asked, second-part.Learnt, walk-below t, walk.Post)
 
 abbrev walk-calls : ℕ → walk-lts.Claims
-walk-calls t = (walk-below t, walk.Post, facing.Asked, facing.Learnt, put.Asked, put.Learnt, sign-of.Asked, sign-of.Learnt, number.Asked, number.Learnt, test-below t, test.Post, end.Asked, end.Learnt, order.Asked, order.Learnt)
+walk-calls t = (walk-below t, walk.Post, facing.Asked, facing.Learnt, put.Asked, put.Learnt, sign-of.Asked, sign-of.Learnt, number.Asked, number.Learnt, test-below t, test.Post, second-part.Asked, second-part.Learnt, order.Asked, order.Learnt)
 
 -- The place where the sign of a test is written and looked up, the place where it was written, and the start.
 abbrev Test-sign : ℕ → Type 0
@@ -142,7 +142,7 @@ walk-swapped t c =
 walk-ordered : (t : ℕ) (c : walk-lts.After-order (walk-calls t) (walk-at t) walk.Post)
     → c .order .result ≡ inOrder (walk-swapped t c) (walk-start t (walk-order t c) .args .at + 1) (getD (walk-start t (walk-order t c) .args .ends .now) (walk-start t (walk-order t c) .args .at + 1) 0)
 walk-ordered t c =
-    c .order .ensures ∙ ap (λ (k : ℕ). inOrder (walk-swapped t c) (walk-start t (walk-order t c) .args .at + 1) k) (c .before .end .ensures)
+    c .order .ensures ∙ ap (λ (k : ℕ). inOrder (walk-swapped t c) (walk-start t (walk-order t c) .args .at + 1) k) (c .before .second .ensures)
 
 test-shared-slice-read-sign : (t : ℕ) → test-lts.Need-shared-slice-read-sign (test-calls t) (test-at t) test.Post
 test-shared-slice-read-sign t c = asked.test-in (test-here t (c .before .before .before))
@@ -185,8 +185,8 @@ test-test-requires t c κs =
 test-enum-told-4 : (t : ℕ) → test-lts.Need-enum-told-4 (test-calls t) (test-at t) test.Post
 test-enum-told-4 t c = search needs
 
-test-end-requires : (t : ℕ) → test-lts.Need-end-requires (test-calls t) (test-at t) test.Post
-test-end-requires t c κs =
+test-second-requires : (t : ℕ) → test-lts.Need-second-requires (test-calls t) (test-at t) test.Post
+test-second-requires t c κs =
     let s = c .before .before in
     asked.test-next (test-here t (test-start t s))
 
@@ -200,11 +200,11 @@ test-test-requires-3 t c κs =
     let first = c .before .before .before in
     let found = first .before .before in
     let s = found .before .before .before in
-    let h = asked.both-second (test-here t (test-start t s)) (sym (found .before .enum-told4 .given .1) ∙ s .sign-of .ensures) (found .end .ensures) (first .test2 .ensures) in
+    let h = asked.both-second (test-here t (test-start t s)) (sym (found .before .enum-told4 .given .1) ∙ s .sign-of .ensures) (found .second .ensures) (first .test2 .ensures) in
     (omega (arith, test-start t s .pre .0, asked.test-in (test-here t (test-start t s)), h .1), h .0)
 
-test-end-requires-2 : (t : ℕ) → test-lts.Need-end-requires-2 (test-calls t) (test-at t) test.Post
-test-end-requires-2 t c κs =
+test-second-requires-2 : (t : ℕ) → test-lts.Need-second-requires-2 (test-calls t) (test-at t) test.Post
+test-second-requires-2 t c κs =
     let s = c .before in
     asked.test-next (test-here t (test-start t s))
 
@@ -219,7 +219,7 @@ test-test-requires-4 t c κs =
     let first = c .before .before .before in
     let found = first .before .before in
     let s = found .before .before in
-    let h = asked.diamond-second (test-here t (test-start t s)) (test-last t (found .before)) (found .end2 .ensures) (first .walk .ensures) in
+    let h = asked.diamond-second (test-here t (test-start t s)) (test-last t (found .before)) (found .second2 .ensures) (first .walk .ensures) in
     (omega (arith, test-start t s .pre .0, asked.test-in (test-here t (test-start t s)), h .1), h .0)
 
 test-same-length : (t : ℕ) → test-lts.Need-same-length (test-calls t) (test-at t) test.Post
@@ -264,7 +264,7 @@ test-returns-4 t c =
     let first = second .before .before .before .before in
     let found = first .before .before in
     let s = found .before .before .before in
-    test-arms.both-written (test-signed t s) (test-here t (test-start t s) .marked .table) (found .end .ensures) (second .test3 .ensures) (sym (found .before .enum-told4 .given .1) ∙ s .sign-of .ensures) (first .test2 .ensures)
+    test-arms.both-written (test-signed t s) (test-here t (test-start t s) .marked .table) (found .second .ensures) (second .test3 .ensures) (sym (found .before .enum-told4 .given .1) ∙ s .sign-of .ensures) (first .test2 .ensures)
 
 test-same-length-5 : (t : ℕ) → test-lts.Need-same-length-5 (test-calls t) (test-at t) test.Post
 test-same-length-5 t c =
@@ -278,7 +278,7 @@ test-returns-5 t c =
     let first = second .before .before .before .before in
     let found = first .before .before in
     let s = found .before .before in
-    test-arms.diamond-written (test-signed t s) (test-here t (test-start t s) .marked .table) (found .end2 .ensures) (second .test4 .ensures) (test-last t (found .before)) (first .walk .ensures)
+    test-arms.diamond-written (test-signed t s) (test-here t (test-start t s) .marked .table) (found .second2 .ensures) (second .test4 .ensures) (test-last t (found .before)) (first .walk .ensures)
 
 walk-shared-slice-read-sign : (t : ℕ) → walk-lts.Need-shared-slice-read-sign (walk-calls t) (walk-at t) walk.Post
 walk-shared-slice-read-sign t c = asked.walk-in (walk-here t (c .before .before .before))
@@ -343,8 +343,8 @@ walk-test-requires t c κs =
     let s = c .before .before .before in
     (omega (arith, walk-start t s .pre .0, asked.walk-in (walk-here t (walk-start t s))), asked.check-here (walk-here t (walk-start t s)) (sym (c .before .enum-told4 .given .1) ∙ s .sign-of .ensures))
 
-walk-end-requires : (t : ℕ) → walk-lts.Need-end-requires (walk-calls t) (walk-at t) walk.Post
-walk-end-requires t c κs =
+walk-second-requires : (t : ℕ) → walk-lts.Need-second-requires (walk-calls t) (walk-at t) walk.Post
+walk-second-requires t c κs =
     let s = c .before in
     asked.walk-next (walk-here t (walk-start t s))
 
@@ -437,10 +437,10 @@ pub +test+walk-spec : {M : Type 1} → statement M
     (test-enum-told-3 t)
     (test-test-requires t)
     (test-enum-told-4 t)
-    (test-end-requires t)
+    (test-second-requires t)
     (test-test-requires-2 t)
     (test-test-requires-3 t)
-    (test-end-requires-2 t)
+    (test-second-requires-2 t)
     (test-walk-requires t)
     (test-test-requires-4 t)
     (test-same-length t)
@@ -470,7 +470,7 @@ pub +test+walk-spec : {M : Type 1} → statement M
     (walk-walk-requires-2 t)
     (walk-enum-told-4 t)
     (walk-test-requires t)
-    (walk-end-requires t)
+    (walk-second-requires t)
     (walk-order-requires t)
     (walk-walk-requires-3 t)
     (walk-walk-requires-4 t)

@@ -4,7 +4,7 @@ use mathlib.Core.List.{List}
 use Prim.Native.Nat.{ℕ}
 use denote.Ref.{now}
 use Rattle.rule.specs.Outcome.{kindOf}
-use Rattle.normal.specs.Answer.{numberGiven, countGiven, NormalOutcome}
+use Rattle.normal.specs.Answer.{numberGiven, countGiven, NormalAnswered}
 use Rattle.normal.specs.declared.NormalAnswer.{NormalAnswer}
 use borrow.Author.Needs.{needs}
 use Rattle.wyndhopper.proofs.kinds.normal_as.Statement.{statement}
@@ -27,7 +27,7 @@ same-length c = search needs
 
 -- what the contract says of a number, a count and the output, at the arguments, and what the call ensures of its answer
 abbrev Told : tie.Start → ℕ → ℕ → List ℕ → Type 0
-Told c = NormalOutcome (kindOf (c .args .kind)) (now (c .args .text)) (c .args .counts) (now (c .args .out))
+Told c = NormalAnswered (kindOf (c .args .kind)) (now (c .args .text)) (c .args .counts) (now (c .args .out))
 
 abbrev Answers : tie.Start → List ℕ → NormalAnswer → Type 0
 Answers c after a = Told c (numberGiven a) (countGiven a) after
