@@ -2,20 +2,20 @@
 -- knows no text and no code.
 use mathlib.Core.Path.{_≡_, sym, _∙_}
 use mathlib.Core.Logic.{_↔_}
-use mathlib.Core.Bool.{Bool, true, false, not, false≢true, _&&_, _||_}
+use mathlib.Core.Bool.{Bool, true, false, not, _&&_}
 use Prim.Native.Nat.{ℕ, _+_, _≤_, _<_}
 use native.Mathlib.Omega.{arith}
 use Rattle.meaning.specs.Theory.{World, stateAt}
-use Rattle.meaning.specs.Rule.{Walk, Test, act, undo, next, prev, seq, alt, star, check, conv, always, fluent, neg, both, diamond}
+use Rattle.meaning.specs.Rule.{Walk, Test, act, undo, next, prev, alt, star, check, conv, always, fluent, neg, both, diamond}
 use Rattle.laws.specs.Bit.{on}
-use Rattle.meaning.specs.Leads.{Leads, Holds, Step, AnyStep, Many, Here}
-use Rattle.meaning.proofs.Chain.{Within}
+use Rattle.meaning.specs.Leads.{Leads, Holds, Step, AnyStep, Or, Many, Chain, stay, link, Here}
+use Rattle.meaning.proofs.Chain.{Within, chain-append, chain-one}
 use Rattle.meaning.proofs.Bounds.{leads-within, back-within}
 use Rattle.meaning.proofs.Converse.{back-exchanged}
 use Rattle.theory.specs.Tables.{TakenAt}
 use Rattle.ask.specs.Image.{Set, UpTo, Image, Sifted, Turn, Way, Crossing}
 use Rattle.laws.proofs.Truth.{and-iff}
-use Rattle.ask.proofs.Image.{image-same, then-image, or-image, many-many, always-sifted, not-sifted, both-sifted, some-sifted}
+use Rattle.ask.proofs.Image.{image-same, always-sifted, not-sifted, both-sifted, some-sifted}
 
 pub way-within : (w : World) (x : Walk) (back : Bool) → Within (Way w x back)
 way-within w x false = leads-within w x
@@ -67,41 +67,38 @@ unfolding Leads
 prev-image w false {n} {c} able i = image-same (λ p q. any-crossing w n c able q p) i
 prev-image w true {n} {c} able i = image-same (any-crossing w n c able) i
 
--- `;VW`: in order, and backwards exchanged
-pub seq-image : (w : World) (v x : Walk) (back : Bool) {n : ℕ} {s a r : Set} → back ≡ false → Image (Way w v back) n s a → Image (Way w x back) n a r → Image (Way w (seq v x) back) n s r
+-- `|VW`, `*W`, `?T`, `-W`: either way, by the parts the same way; `-W` the other way
+pub alt-way : (w : World) (v x : Walk) (back : Bool) (p q n : ℕ) → Way w (alt v x) back p q n ↔ Or (Way w v back) (Way w x back) p q n
 unfolding Leads
-seq-image w v x false e i j = then-image i j
-seq-image w v x true e i j = absurd (false≢true (sym e))
+alt-way w v x false p q n = (λ h. h, λ h. h)
+alt-way w v x true p q n = (λ h. h, λ h. h)
 
-pub seq-back : (w : World) (v x : Walk) (back : Bool) {n : ℕ} {s a r : Set} → back ≡ true → Image (Way w x back) n s a → Image (Way w v back) n a r → Image (Way w (seq v x) back) n s r
+pub star-way : (w : World) (x : Walk) (back : Bool) (p q n : ℕ) → Way w (star x) back p q n ↔ Many (Way w x back) p q n
 unfolding Leads
-seq-back w v x true e i j = then-image i j
-seq-back w v x false e i j = absurd (false≢true e)
+star-way w x false p q n = (λ h. h, λ h. h)
+star-way w x true p q n = (λ h. h, λ h. h)
 
--- `|VW`
-pub alt-image : (w : World) (v x : Walk) (back : Bool) {n : ℕ} {s a b r : Set} → ((q : ℕ) → r q ≡ (a q || b q)) → Image (Way w v back) n s a → Image (Way w x back) n s b
-    → Image (Way w (alt v x) back) n s r
+pub check-way : (w : World) (x : Test) (back : Bool) (p q n : ℕ) → Way w (check x) back p q n ↔ Here w (Holds w x) p q n
 unfolding Leads
-alt-image w v x false j f g = or-image j f g
-alt-image w v x true j f g = or-image j f g
+check-way w x false p q n = (λ h. h, λ h. h)
+check-way w x true p q n = (λ h. h, λ h. h)
 
--- `*W`
-pub star-image : (w : World) (x : Walk) (back : Bool) {n : ℕ} {s r : Set} → Image (Many (Way w x back)) n s r → Image (Way w (star x) back) n s r
+pub conv-way : (w : World) (x : Walk) (back : Bool) (p q n : ℕ) → Way w (conv x) back p q n ↔ Way w x (not back) p q n
 unfolding Leads
-star-image w x false i = i
-star-image w x true i = i
+conv-way w x false p q n = (λ h. h, λ h. h)
+conv-way w x true p q n = (λ h. h, λ h. h)
 
--- `?T`: the same both ways
-pub check-image : (w : World) (x : Test) (back : Bool) {n : ℕ} {s r : Set} → Image (Here w (Holds w x)) n s r → Image (Way w (check x) back) n s r
-unfolding Leads
-check-image w x false i = i
-check-image w x true i = i
+-- a chain with one more link; `**W` is `*W`
+pub star-more : (w : World) (x : Walk) (back : Bool) (p m q n : ℕ) → Way w (star x) back p m n → Way w x back m q n → Way w (star x) back p q n
+star-more w x back p m q n chain step =
+    star-way w x back p q n .1 (chain-append (star-way w x back p m n .0 chain) (chain-one step (way-within w x back m q n step .1)))
 
--- `-W`
-pub conv-image : (w : World) (x : Walk) (back : Bool) {n : ℕ} {s r : Set} → Image (Way w x (not back)) n s r → Image (Way w (conv x) back) n s r
-unfolding Leads
-conv-image w x false i = i
-conv-image w x true i = i
+pub stars-flat : (w : World) (x : Walk) (back : Bool) (p q n : ℕ) → Way w (star (star x)) back p q n → Way w (star x) back p q n
+stars-flat w x back p q n h = star-way w x back p q n .1 (flat (star-way w (star x) back p q n .0 h))
+  where
+    flat : {p q : ℕ} → Chain (Way w (star x) back) n p q → Chain (Way w x back) n p q
+    flat (stay e low) = stay e low
+    flat (link {p = p} {m = m} chain rest) = chain-append (star-way w x back p m n .0 chain) (flat rest)
 
 -- `1`, `fNN`, `!T`, `&TU`
 pub always-keeps : (w : World) {n : ℕ} {s : Set} → Sifted (Holds w always) n s s
@@ -131,9 +128,3 @@ pub diamond-keeps : (w : World) (v : Walk) (x : Test) {n : ℕ} {s all t m r : S
     → Image (Way w v true) n t m → ((q : ℕ) → r q ≡ (s q && m q)) → Sifted (Holds w (diamond v x)) n s r
 unfolding Leads
 diamond-keeps w v x {n} all f i meet = some-sifted (leads-within w v) (λ p q. back-exchanged w v p q n) all f i meet
-
--- `**W` is `*W`
-pub star-star : (w : World) (x : Walk) (back : Bool) {n : ℕ} {s r : Set} → Image (Many (Way w x back)) n s r → Image (Many (Way w (star x) back)) n s r
-unfolding Leads
-star-star w x false i = many-many (leads-within w x) i
-star-star w x true i = many-many (back-within w x) i

@@ -3,6 +3,7 @@
 use mathlib.Core.Path.{_≡_, refl, sym, subst, _∙_}
 use mathlib.Core.Logic.{_⊎_, inl, inr, ⊎-elim}
 use mathlib.Core.Bool.{true, false, cond}
+use mathlib.Core.List.{List}
 use Prim.Native.Nat.{ℕ, _-_, _^_, _<_}
 use lib.Bits.{bitOr}
 use lib.Dec.{eqb}
@@ -18,7 +19,8 @@ use Rattle.meaning.specs.Rule.{Walk, Test, act, undo, next, prev, seq, alt, sta
 use Rattle.meaning.specs.Leads.{Leads}
 use Rattle.meaning.specs.Asks.{Asks}
 use Rattle.ask.specs.Asked.{AskedBy}
-use Rattle.ask.specs.Image.{Set, Image}
+use Rattle.ask.specs.Image.{Set}
+use Rattle.ask.specs.Run.{Ground, led, Lies, Walked, AskedOn}
 
 -- a word with no bit on
 none-asked : (w : World) (x : Walk) (n : ℕ) (from : Set) → ((p a : ℕ) → from p ≡ true → Asks w x p n a → ⊥) → AskedBy w x n from 0
@@ -40,48 +42,53 @@ next-asked w n from = elim (true-or-false (from n)) [
   | inr away ↦ rw away (none-asked w next n from λ p a h e. off-on (subst (λ (i : ℕ). from i ≡ false) (sym e) away) h)
 ]
 
--- `;VW`: what V asks for, and from where V ends what W does
-pub seq-asked : (w : World) (v x : Walk) (n : ℕ) (from middle : Set) (one two : ℕ) → AskedBy w v n from one → Image (Leads w v) n from middle
-    → AskedBy w x n middle two → AskedBy w (seq v x) n from (bitOr one two)
-unfolding Asks
-seq-asked w v x n from middle one two f image g a h =
-    (λ e. out (or-iff _ _ .0 (sym (on-or one two a) ∙ e)), λ u. on-or one two a ∙ or-iff _ _ .1 (into u))
-  where
-    out : (on one a ≡ true) ⊎ (on two a ≡ true) → (p : ℕ) × (from p ≡ true) × Asks w (seq v x) p n a
-    out (inl e) = let u = f a h .0 e in (u .0, u .1, inl (u .2))
-    out (inr e) =
-        let u = g a h .0 e in
-        let m = image .each (u .0) .0 (u .1) in
-        (m .0, m .1, inr (u .0, m .2, u .2))
+-- on a ground that has the set
+pub asked-on : {w : World} {x : Walk} {n : ℕ} {g : Ground} {from : Set} {asked : ℕ} → ((q : ℕ) → from q ≡ true → Lies w n g q) → AskedBy w x n from asked
+    → AskedOn w x n g from asked
+asked-on ground by = record {
+  least = λ p a h i k. by a h .1 (p, i, k);
+  most = λ a h e. let (p, i, k) = by a h .0 e in (p, ground p i, k);
+}
 
-    into : ((p : ℕ) × (from p ≡ true) × Asks w (seq v x) p n a) → (on one a ≡ true) ⊎ (on two a ≡ true)
-    into u = ⊎-elim
-        (λ k. inl (f a h .1 (u .0, u .1, k)))
-        (λ k. inr (g a h .1 (k .0, image .each (k .0) .1 (u .0, u .1, k .1), k .2)))
-        (u .2)
+either : (one two a : ℕ) → (on one a ≡ true) ⊎ (on two a ≡ true) → on (bitOr one two) a ≡ true
+either one two a h = on-or one two a ∙ or-iff (on one a) (on two a) .1 h
+
+-- `;VW`: what V asks for, and from where V ends what W does
+pub seq-asked : {w : World} {v x : Walk} {n at : ℕ} {g : Ground} {bytes before after : List ℕ} {from middle : Set} {one two : ℕ} → AskedOn w v n g from one
+    → Walked w bytes n at v false g before after from middle → AskedOn w x n (led g v false) middle two → AskedOn w (seq v x) n g from (bitOr one two)
+unfolding Asks
+seq-asked {one = one} {two = two} f walk k = record {
+  least = λ p a h i. ⊎-elim
+      (λ e. either one two a (inl (f .least p a h i e)))
+      (λ e. either one two a (inr (k .least (e .0) a h (walk .least p (e .0) i (e .1)) (e .2))));
+  most = λ a h e. ⊎-elim
+      (λ o. let (p, on, u) = f .most a h o in (p, on, inl u))
+      (λ o. let (m, (p, on, step), u) = k .most a h o in (p, on, inr (m, step, u)))
+      (or-iff (on one a) (on two a) .0 (sym (on-or one two a) ∙ e));
+}
 
 -- `|VW`: what either asks for
-pub alt-asked : (w : World) (v x : Walk) (n : ℕ) (from : Set) (one two : ℕ) → AskedBy w v n from one → AskedBy w x n from two
-    → AskedBy w (alt v x) n from (bitOr one two)
+pub alt-asked : {w : World} {v x : Walk} {n : ℕ} {g : Ground} {from : Set} {one two : ℕ} → AskedOn w v n g from one → AskedOn w x n g from two
+    → AskedOn w (alt v x) n g from (bitOr one two)
 unfolding Asks
-alt-asked w v x n from one two f g a h =
-    (λ e. out (or-iff _ _ .0 (sym (on-or one two a) ∙ e)), λ u. on-or one two a ∙ or-iff _ _ .1 (into u))
-  where
-    out : (on one a ≡ true) ⊎ (on two a ≡ true) → (p : ℕ) × (from p ≡ true) × Asks w (alt v x) p n a
-    out (inl e) = let u = f a h .0 e in (u .0, u .1, inl (u .2))
-    out (inr e) = let u = g a h .0 e in (u .0, u .1, inr (u .2))
-
-    into : ((p : ℕ) × (from p ≡ true) × Asks w (alt v x) p n a) → (on one a ≡ true) ⊎ (on two a ≡ true)
-    into u = ⊎-elim (λ k. inl (f a h .1 (u .0, u .1, k))) (λ k. inr (g a h .1 (u .0, u .1, k))) (u .2)
+alt-asked {one = one} {two = two} f k = record {
+  least = λ p a h i. ⊎-elim
+      (λ e. either one two a (inl (f .least p a h i e)))
+      (λ e. either one two a (inr (k .least p a h i e)));
+  most = λ a h e. ⊎-elim
+      (λ o. let (p, on, u) = f .most a h o in (p, on, inl u))
+      (λ o. let (p, on, u) = k .most a h o in (p, on, inr u))
+      (or-iff (on one a) (on two a) .0 (sym (on-or one two a) ∙ e));
+}
 
 -- `*W`: what W asks for after any number of rounds
-pub star-asked : (w : World) (x : Walk) (n : ℕ) (from held : Set) (asked : ℕ) → Image (Leads w (star x)) n from held → AskedBy w x n held asked
-    → AskedBy w (star x) n from asked
+pub star-asked : {w : World} {x : Walk} {n at : ℕ} {g : Ground} {bytes before after : List ℕ} {from held : Set} {asked : ℕ}
+    → Walked w bytes n at (star x) false g before after from held → AskedOn w x n (led g (star x) false) held asked → AskedOn w (star x) n g from asked
 unfolding Asks Leads
-star-asked w x n from held asked image f a h = (
-  λ e. let u = f a h .0 e in let m = image .each (u .0) .0 (u .1) in (m .0, m .1, (u .0, m .2, u .2)),
-  λ u. f a h .1 (u .2 .0, image .each (u .2 .0) .1 (u .0, u .1, u .2 .1), u .2 .2),
-)
+star-asked walk f = record {
+  least = λ p a h i u. f .least (u .0) a h (walk .least p (u .0) i (u .1)) (u .2);
+  most = λ a h e. let (m, (p, on, chain), u) = f .most a h e in (p, on, (m, chain, u));
+}
 
 -- the other signs never ask
 pub check-asked : (w : World) (t : Test) (n : ℕ) (from : Set) → AskedBy w (check t) n from 0

@@ -1,6 +1,7 @@
 -- The evaluator's calls over the text: from a rule that stands at a place, and its sign, the parts that stand behind it, each further on. Knows the table of
 -- ends; no set and no world.
-use mathlib.Core.Path.{_≡_, refl, subst}
+use mathlib.Core.Path.{_≡_, refl, subst, subst⁻¹}
+use mathlib.Core.Bool.{Bool, true, false, cond}
 use mathlib.Core.List.{List}
 use Prim.Native.Nat.{ℕ, _+_, _≤_, _<_}
 use native.Mathlib.Omega.{arith}
@@ -31,10 +32,11 @@ module _ {bytes ends : List ℕ} (marked : Ends bytes ends) {i : ℕ} {x : Rule}
   pub end-after : (other : ℕ) → other ≡ getD ends i 0 → i ≤ other
   end-after other e = omega (arith, marked .each i x first)
 
+  pub end-there : (other : ℕ) → other ≡ getD ends i 0 → i + length (text x) ≡ other
+  end-there other e = omega (arith, marked .each i x first)
+
   pub end-stands : {y : Rule} (other : ℕ) → other ≡ getD ends i 0 → Stands bytes (i + length (text x)) y → Stands bytes other y
-  end-stands {y} other e h =
-      let there : i + length (text x) ≡ other = omega (arith, marked .each i x first) in
-      subst (λ (k : ℕ). Stands bytes k y) there h
+  end-stands {y} other e h = subst (λ (k : ℕ). Stands bytes k y) (end-there other e) h
 
 -- the second part's place, and that something stands there
 pub record Behind (ends : List ℕ) (at : ℕ) (Here : ℕ → Type 0) : Type 0 where
@@ -71,6 +73,12 @@ module _ {bytes ends : List ℕ} {at : ℕ} (h : WalkHere bytes ends at) where
     where
       go : {r : Rule} → Spread bytes at 59 r → Behind ends at (WalkHere bytes ends)
       go (seq-at v w p q) = walk-behind (h .marked) p w q
+
+  -- the one of the two that is walked first, or then
+  pub seq-either-here : getD bytes at 0 ≡ 59 → (other : ℕ) → other ≡ getD ends (at + 1) 0 → (back : Bool) (place : ℕ) → place ≡ cond back other (at + 1)
+      → (at < place) × WalkHere bytes ends place
+  seq-either-here e other there true place h = subst⁻¹ (λ (i : ℕ). (at < i) × WalkHere bytes ends i) h (seq-second e .there other there)
+  seq-either-here e other there false place h = subst⁻¹ (λ (i : ℕ). (at < i) × WalkHere bytes ends i) h (omega arith, seq-first e)
 
   pub alt-first : getD bytes at 0 ≡ 124 → WalkHere bytes ends (at + 1)
   alt-first e = go (spread (h .stands) 124 e)

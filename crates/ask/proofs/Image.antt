@@ -1,22 +1,17 @@
--- The image of a set of positions under each sign of a walk, and the positions of a set that each sign of a test keeps: the mathematics of the evaluator's
--- arms. Knows relations, and sets by the positions that they hold; no walk, no text and no word.
+-- The image of a set of positions, what a `?` holds while it goes over a set, and the positions of a set that each sign of a test keeps: the mathematics of
+-- the evaluator's arms. Knows relations, and sets by the positions that they hold; no walk, no text and no word.
 use mathlib.Core.Path.{_≡_, refl, sym, subst, _∙_}
-use mathlib.Core.Logic.{_↔_, _⊎_, inl, inr, ⊎-elim, Iff·trans}
+use mathlib.Core.Logic.{_↔_, _⊎_, inl, inr, ⊎-elim}
 use mathlib.Core.Bool.{Bool, true, false, not, _&&_, _||_}
 use Prim.Native.Nat.{ℕ, _≤_}
 use borrow.Author.Tests.{not-true}
 use Rattle.laws.proofs.Truth.{no-truth, off-on, true-or-false, and-iff, or-iff, implies-iff}
 use Rattle.meaning.specs.Theory.{World}
-use Rattle.meaning.specs.Leads.{Rel, Truth, Then, Or, Many, Chain, stay, link, Always, Both, Not, Some, Here, ownNow}
-use Rattle.meaning.proofs.Chain.{Within, chain-append, chain-one, many-within}
+use Rattle.meaning.specs.Leads.{Rel, Truth, Always, Both, Not, Some, Here, ownNow}
+use Rattle.meaning.proofs.Chain.{Within}
 use Rattle.ask.specs.Image.{Set, UpTo, Image, Sifted}
 
--- what an image holds is at or before now, and so is what is kept of a set that is
-pub image-up-to : {r : Rel} {n : ℕ} {s a : Set} → Within r → Image r n s a → UpTo n a
-image-up-to {n = n} low i q h =
-    let (p, there, step) = i .each q .0 h in
-    low p q n step .1
-
+-- what is kept of a set at or before now is so too
 pub sifted-up-to : {x : Truth} {n m : ℕ} {s a : Set} → UpTo m s → Sifted x n s a → UpTo m a
 sifted-up-to low i q h = low q (i .each q .0 h .0)
 
@@ -29,74 +24,6 @@ image-same e i = record {
   );
 }
 
--- the same answer, said otherwise
-pub image-held : {r : Rel} {n : ℕ} {s a b : Set} → ((q : ℕ) → (b q ≡ true) ↔ (a q ≡ true)) → Image r n s a → Image r n s b
-image-held e i = record { each = λ q. Iff·trans (e q) (i .each q) }
-
--- `;VW`
-pub then-image : {r t : Rel} {n : ℕ} {s a b : Set} → Image r n s a → Image t n a b → Image (Then r t) n s b
-then-image f g = record {
-  each = λ q. (
-    λ h.
-        let (m, on, next) = g .each q .0 h in
-        let (p, there, step) = f .each m .0 on in
-        (p, there, (m, step, next)),
-    λ h.
-        let (m, step, next) = h .2 in
-        g .each q .1 (m, f .each m .1 (h .0, h .1, step), next),
-  );
-}
-
--- `|VW`
-pub or-image : {r t : Rel} {n : ℕ} {s a b c : Set} → ((q : ℕ) → c q ≡ (a q || b q)) → Image r n s a → Image t n s b → Image (Or r t) n s c
-or-image {r} {t} {n} {s} {a} {b} {c} join f g = record {
-  each = λ q. (
-    λ h. ⊎-elim (λ k. let (p, there, step) = f .each q .0 k in (p, there, inl step)) (λ k. let (p, there, step) = g .each q .0 k in (p, there, inr step)) (or-iff (a q) (b q) .0 (sym (join q) ∙ h)),
-    λ h. join q ∙ or-iff (a q) (b q) .1 (⊎-elim (λ k. inl (f .each q .1 (h .0, h .1, k))) (λ k. inr (g .each q .1 (h .0, h .1, k))) (h .2)),
-  );
-}
-
--- `*W`, what its loop holds between two rounds: the set's own positions, and none that no chain leads to
-pub record Between (r : Rel) (n : ℕ) (s held : Set) : Type 0 where
-  pub own : (q : ℕ) → s q ≡ true → held q ≡ true
-  pub chained : (q : ℕ) → held q ≡ true → (p : ℕ) × (s p ≡ true) × Chain r n p q
-
-pub many-start : {r : Rel} {n : ℕ} {s : Set} → UpTo n s → Between r n s s
-many-start low = record { own = λ q h. h; chained = λ q h. (q, h, stay refl (low q h)) }
-
-pub held-up-to : {r : Rel} {n : ℕ} {s h : Set} → Within r → Between r n s h → UpTo n h
-held-up-to {n = n} low b q k =
-    let (p, there, chain) = b .chained q k in
-    many-within low p q n chain .1
-
-pub many-more : {r : Rel} {n : ℕ} {s h m j : Set} → Within r → Between r n s h → Image r n h m → ((q : ℕ) → j q ≡ (h q || m q)) → Between r n s j
-many-more {r} {n} {s} {h} {m} {j} low b i join = record {
-  own = λ q k. join q ∙ or-iff (h q) (m q) .1 (inl (b .own q k));
-  chained = λ q k. ⊎-elim (b .chained q) (further q) (or-iff (h q) (m q) .0 (sym (join q) ∙ k));
-}
-  where
-    further : (q : ℕ) → m q ≡ true → (p : ℕ) × (s p ≡ true) × Chain r n p q
-    further q k =
-        let (v, on, step) = i .each q .0 k in
-        let (p, there, chain) = b .chained v on in
-        (p, there, chain-append chain (chain-one step (low v q n step .1)))
-
--- a round that adds nothing: every chain from the set stays in what is held
-pub many-done : {r : Rel} {n : ℕ} {s h m : Set} → Between r n s h → Image r n h m → ((q : ℕ) → m q ≡ true → h q ≡ true) → Image (Many r) n s h
-many-done {r} {n} {s} {h} {m} b i nothing = record { each = λ q. (λ k. b .chained q k, λ k. along (k .2) (b .own (k .0) (k .1))) }
-  where
-    along : {p q : ℕ} → Chain r n p q → h p ≡ true → h q ≡ true
-    along (stay e low) k = subst (λ (v : ℕ). h v ≡ true) (sym e) k
-    along (link {p = p} {m = v} step rest) k = along rest (nothing v (i .each v .1 (p, k, step)))
-
--- `**W`: a chain of chains is a chain
-pub many-many : {r : Rel} {n : ℕ} {s a : Set} → Within r → Image (Many r) n s a → Image (Many (Many r)) n s a
-many-many {r} {n} low i = image-same (λ p q. (λ h. chain-one h (many-within low p q n h .1), flat)) i
-  where
-    flat : {p q : ℕ} → Chain (Many r) n p q → Chain r n p q
-    flat (stay e here) = stay e here
-    flat (link chain rest) = chain-append chain (flat rest)
-
 -- a position of the first set and not of the second
 pub rest-iff : (a b : Bool) → ((a && not b) ≡ true) ↔ ((a ≡ true) × (b ≡ false))
 rest-iff a b = (
@@ -108,9 +35,6 @@ rest-iff a b = (
 pub record Gone (x : Truth) (s left kept : Set) : Type 0 where
   pub within : (q : ℕ) → left q ≡ true → s q ≡ true
   pub each : (q : ℕ) → (kept q ≡ true) ↔ ((s q ≡ true) × (left q ≡ false) × x q q)
-
-pub gone-none : {x : Truth} {s none : Set} → ((q : ℕ) → none q ≡ false) → Gone x s s none
-gone-none none = record { within = λ q h. h; each = λ q. (λ h. absurd (off-on (none q) h), λ h. absurd (off-on (h .1) (h .0))) }
 
 -- one position more is gone over
 pub gone-more : {x : Truth} {s left kept one there left′ kept′ : Set} (p : ℕ) → left p ≡ true → ((q : ℕ) → (one q ≡ true) ↔ (q ≡ p))

@@ -1,25 +1,26 @@
 -- The evaluator's two loops, over position sets: what a round of a star adds and why it ends, and what one position of a test's set takes away. Knows sets
 -- by the positions that they hold.
 use mathlib.Core.Path.{_≡_, sym, subst, _∙_}
-use mathlib.Core.Logic.{_↔_, inl}
-use mathlib.Core.Bool.{true, not, _&&_, _||_}
+use mathlib.Core.Logic.{_↔_}
+use mathlib.Core.Bool.{true, false, not, _&&_, _||_}
 use Prim.Native.Nat.{ℕ, _-_, _≤_, _<_}
 use native.Mathlib.Omega.{arith}
 use lib.Dec.{eqb, ltb}
 use borrow.Author.Tests.{eqb-true, eq-eqb, lt-ltb}
-use Rattle.laws.proofs.Truth.{off-on, and-iff, or-iff}
+use Rattle.laws.proofs.Truth.{off-on, and-iff}
 use Rattle.laws.proofs.First.{first-le}
 use Rattle.meaning.specs.Limits.{places}
 use Rattle.meaning.specs.Reach.{countOf, earliestOf}
 use Rattle.positions.specs.declared.PositionSet.{PositionSet}
-use Rattle.positions.specs.Positions.{holds, Empty, Inside}
-use Rattle.positions.proofs.Held.{earliest-none, earliest-found, grows, falls}
+use Rattle.positions.specs.Positions.{holds, Empty}
+use Rattle.positions.proofs.Held.{earliest-none, earliest-found, some-held, grows, join-falls}
 use Rattle.ask.proofs.Image.{rest-iff}
 
--- a round that adds something leaves fewer places
-pub round-falls : (held more all : PositionSet) → ((q : ℕ) → holds all q ≡ (holds held q || holds more q)) → (Inside all held → ⊥)
-    → places - countOf (holds all) < places - countOf (holds held)
-round-falls held more all join new = falls held all (λ q h. join q ∙ or-iff (holds held q) (holds more q) .1 (inl h)) new
+-- a round takes in something that was not seen, and leaves fewer places
+pub round-falls : (seen new all : PositionSet) → ((q : ℕ) → holds all q ≡ (holds seen q || holds new q)) → (Empty new → ⊥)
+    → ((q : ℕ) → holds new q ≡ true → holds seen q ≡ false) → places - countOf (holds all) < places - countOf (holds seen)
+round-falls seen new all join some apart =
+    join-falls seen new all join (λ inside. let (q, there) = some-held new some in off-on (apart q there) (inside q there))
 
 -- the earliest position of a set that is not empty is held
 pub earliest-there : (left : PositionSet) (p : ℕ) → (Empty left → ⊥) → p ≡ earliestOf (holds left) → holds left p ≡ true

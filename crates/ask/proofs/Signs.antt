@@ -1,26 +1,30 @@
 -- What a walk asks for, over the text: from the sign at a place and what was found for the parts behind it, what is found for the whole walk there.
-use mathlib.Core.Path.{_≡_, refl}
+use mathlib.Core.Path.{_≡_, refl, sym, subst}
+use mathlib.Core.Logic.{inl, inr}
 use mathlib.Core.Bool.{false, cond}
 use mathlib.Core.List.{List}
 use Prim.Native.Nat.{ℕ, _+_, _-_, _^_, _<_}
+use native.Mathlib.Omega.{arith}
 use lib.Bits.{bitOr}
 use lib.Dec.{eqb}
-use lib.ListN.{getD}
+use lib.ListN.{length, getD}
 use Rattle.laws.specs.Bit.{on}
 use Rattle.meaning.specs.Limits.{actionLimit}
 use Rattle.meaning.specs.Theory.{World}
-use Rattle.meaning.specs.Rule.{Walk, Rule, ofWalk}
-use Rattle.meaning.proofs.Bounds.{leads-within}
-use Rattle.ask.specs.Image.{Set, UpTo}
+use Rattle.meaning.specs.Rule.{Walk, Rule, star, ofWalk, walkText}
+use Rattle.ask.specs.Image.{Set}
 use Rattle.spelling.specs.declared.Digits.the-variants.{Number}
 use Rattle.spelling.specs.Scan.{NumberAt}
 use Rattle.rule.specs.Standing.{Stands, Ends}
-use Rattle.ask.specs.Found.{Tabled, WalkHere, Numbered, WalkFound}
-use Rattle.ask.proofs.Image.{image-up-to}
+use Rattle.ask.specs.Found.{WalkHere, Numbered}
+use Rattle.ask.specs.Run.{Ground, led, Seen, Begun, WalkKept, Asking, AskKept}
 use Rattle.rule.proofs.Spread.{Spread, spread, act-at, undo-at, next-at, prev-at, seq-at, alt-at, star-at, check-at, conv-at}
-use Rattle.ask.proofs.Calls.{end-stands, NoSign}
+use Rattle.ask.proofs.Calls.{end-there, NoSign}
+use Rattle.ask.proofs.Keeping.{outside-more, outside-none, outside-then}
+use Rattle.ask.proofs.Seen.{seq-long, alt-long, star-long, chained-same}
+use Rattle.ask.proofs.Found.{walked-low, seen-beside}
 use Rattle.ask.specs.Asked.{AskedBy, AskFound}
-use Rattle.ask.proofs.Asked.{act-asked, next-asked, seq-asked, alt-asked, star-asked, check-asked, undo-asked, prev-asked, conv-asked}
+use Rattle.ask.proofs.Asked.{asked-on, act-asked, next-asked, seq-asked, alt-asked, star-asked, check-asked, undo-asked, prev-asked, conv-asked}
 
 -- the number behind an `a`
 pub act-number : {bytes ends : List ℕ} {at : ℕ} → WalkHere bytes ends at → getD bytes at 0 ≡ 97 → Numbered bytes (at + 1)
@@ -28,6 +32,18 @@ act-number {bytes} {at = at} h sign = go (spread (h .stands) 97 sign)
   where
     go : {r : Rule} → Spread bytes at 97 r → Numbered bytes (at + 1)
     go (act-at b digits) = record { number = b; digits = digits }
+
+-- the signs that have no part to ask keep nothing
+pub leaf-asked : {bytes : List ℕ} {at : ℕ} {rows : List ℕ} {n : ℕ} {slots : List ℕ} {from : Set} {word : ℕ} → AskFound bytes at rows n from word
+    → AskKept bytes at rows n slots slots from word
+leaf-asked f = record {
+  found = λ w x g b. record {
+    asked = asked-on (b .ground) (f .found w (b .tabled) (b .low) x (b .stands));
+    told = b .told;
+    seen = b .seen;
+    outside = outside-none;
+  };
+}
 
 module _ {bytes : List ℕ} {at : ℕ} {rows : List ℕ} {n : ℕ} {from : Set} where
   -- `aNN`
@@ -45,16 +61,6 @@ module _ {bytes : List ℕ} {at : ℕ} {rows : List ℕ} {n : ℕ} {from : Set} 
       go : (w : World) → {x : Walk} → Spread bytes at 110 (ofWalk x) → AskedBy w x n from r
       go w next-at = rw e (next-asked w n from)
 
-  -- `*W`: from the positions that the star itself leads to
-  pub star-found : {held : Set} {asked : ℕ} → getD bytes at 0 ≡ 42 → WalkFound bytes at false rows n from held → AskFound bytes (at + 1) rows n held asked
-      → AskFound bytes at rows n from asked
-  star-found {held} {asked} sign walk f = record { found = λ w tabled low x h. go w tabled low h (spread h 42 sign) }
-    where
-      go : (w : World) → Tabled w rows n → UpTo n from → {x : Walk} → Stands bytes at (ofWalk x) → Spread bytes at 42 (ofWalk x) → AskedBy w x n from asked
-      go w tabled low {x} h (star-at v p) =
-          let image = walk .found w tabled low x h in
-          star-asked w v n from held asked image (f .found w tabled (image-up-to (leads-within w x) image) v p)
-
   -- the signs that never ask
   pub quiet-found : NoSign bytes at 97 → NoSign bytes at 110 → NoSign bytes at 59 → NoSign bytes at 124 → NoSign bytes at 42 → AskFound bytes at rows n from 0
   quiet-found no-act no-next no-seq no-alt no-star = record { found = λ w tabled low x h. go w (spread h (getD bytes at 0) refl) refl }
@@ -70,23 +76,73 @@ module _ {bytes : List ℕ} {at : ℕ} {rows : List ℕ} {n : ℕ} {from : Set} 
       go w (check-at t p) e = check-asked w t n from
       go w (conv-at x p) e = conv-asked w x n from
 
-module _ {bytes ends : List ℕ} (marked : Ends bytes ends) {at other : ℕ} (there : other ≡ getD ends (at + 1) 0) {rows : List ℕ} {n : ℕ} {from : Set} {one two : ℕ} where
-  -- `;VW`
-  pub seq-found : {middle : Set} → getD bytes at 0 ≡ 59 → AskFound bytes (at + 1) rows n from one → WalkFound bytes (at + 1) false rows n from middle
-      → AskFound bytes other rows n middle two → AskFound bytes at rows n from (bitOr one two)
-  seq-found {middle} sign f walk g = record { found = λ w tabled low x h. go w tabled low (spread h 59 sign) }
+  -- `*W`: from the positions that the star itself leads to
+  pub star-found : {one two three : List ℕ} {held : Set} {word : ℕ} → getD bytes at 0 ≡ 42 → WalkKept bytes at false rows n one two from held
+      → AskKept bytes (at + 1) rows n two three held word → AskKept bytes at rows n one three from word
+  unfolding Seen
+  star-found {one} {two} {three} {held} {word} sign walk f = record { found = λ w x g b. go w g (spread (b .stands) 42 sign) b }
     where
-      go : (w : World) → Tabled w rows n → UpTo n from → {x : Walk} → Spread bytes at 59 (ofWalk x) → AskedBy w x n from (bitOr one two)
-      go w tabled low (seq-at v x p q) =
-          let image = walk .found w tabled low v p in
-          let second = g .found w tabled (image-up-to (leads-within w v) image) x (end-stands marked p other there q) in
-          seq-asked w v x n from middle one two (f .found w tabled low v p) image second
+      go : (w : World) (g : Ground) {x : Walk} → Spread bytes at 42 (ofWalk x) → Begun w bytes rows n at x false g one from → Asking w bytes n at x g one three from word
+      go w g (star-at x p) b =
+          let u = walk .found w (star x) g b in
+          let t = f .found w x (led g (star x) false) (record { tabled = b .tabled; low = walked-low u; stands = p; ground = u .most; told = u .told; seen = u .seen .1 }) in
+          record {
+            asked = star-asked u (t .asked);
+            told = t .told;
+            seen = (chained-same two three at (t .outside .same at (inl (omega arith))) (u .seen .0), t .seen);
+            outside = outside-then (u .outside) (outside-more (omega arith) (omega (arith, star-long x)) (t .outside));
+          }
+
+-- the second part's place
+ask-at : {bytes ends : List ℕ} → Ends bytes ends → (at other : ℕ) → other ≡ getD ends (at + 1) 0 → {rows : List ℕ} {n : ℕ} {v : Walk} {one two : List ℕ} {s : Set} {word : ℕ}
+    → Stands bytes (at + 1) (ofWalk v) → AskKept bytes other rows n one two s word → AskKept bytes (at + 1 + length (walkText v)) rows n one two s word
+ask-at {bytes} marked at other there {rows} {n} {one = one} {two = two} {s = s} {word = word} p f =
+    subst (λ (i : ℕ). AskKept bytes i rows n one two s word) (sym (end-there marked p other there)) f
+
+module _ {bytes ends : List ℕ} (marked : Ends bytes ends) {at other : ℕ} (there : other ≡ getD ends (at + 1) 0) {rows : List ℕ} {n : ℕ} {from : Set} {first second : ℕ} where
+  -- `;VW`
+  pub seq-found : {one two three four : List ℕ} {middle : Set} → getD bytes at 0 ≡ 59 → WalkKept bytes (at + 1) false rows n one two from middle
+      → AskKept bytes (at + 1) rows n two three from first → AskKept bytes other rows n three four middle second → AskKept bytes at rows n one four from (bitOr first second)
+  unfolding Seen
+  seq-found {one} {two} {three} {four} {middle} sign walk f k = record { found = λ w x g b. go w g (spread (b .stands) 59 sign) b }
+    where
+      go : (w : World) (g : Ground) {x : Walk} → Spread bytes at 59 (ofWalk x) → Begun w bytes rows n at x false g one from
+          → Asking w bytes n at x g one four from (bitOr first second)
+      go w g (seq-at v x p q) b =
+          let behind = at + 1 + length (walkText v) in
+          let i = walk .found w v g (record { tabled = b .tabled; low = b .low; stands = p; ground = b .ground; told = b .told; seen = b .seen .0 }) in
+          let u = f .found w v g (record { tabled = b .tabled; low = b .low; stands = p; ground = b .ground; told = i .told; seen = i .seen }) in
+          let next = seen-beside w n x false (led g v false) behind (outside-then (i .outside) (u .outside)) (inr (omega arith)) (b .seen .1) in
+          let given : Begun w bytes rows n behind x false (led g v false) three middle
+          = record { tabled = b .tabled; low = walked-low i; stands = q; ground = i .most; told = u .told; seen = next } in
+          let t = ask-at marked at other there p k .found w x (led g v false) given in
+          record {
+            asked = seq-asked (u .asked) i (t .asked);
+            told = t .told;
+            seen = (seen-beside w n v false g (at + 1) (t .outside) (inl (omega arith)) (u .seen), t .seen);
+            outside = outside-then (outside-more (omega arith) (omega (arith, seq-long v x)) (outside-then (i .outside) (u .outside)))
+                (outside-more (omega arith) (omega (arith, seq-long v x)) (t .outside));
+          }
 
   -- `|VW`
-  pub alt-found : getD bytes at 0 ≡ 124 → AskFound bytes (at + 1) rows n from one → AskFound bytes other rows n from two
-      → AskFound bytes at rows n from (bitOr one two)
-  alt-found sign f g = record { found = λ w tabled low x h. go w tabled low (spread h 124 sign) }
+  pub alt-found : {one two three : List ℕ} → getD bytes at 0 ≡ 124 → AskKept bytes (at + 1) rows n one two from first → AskKept bytes other rows n two three from second
+      → AskKept bytes at rows n one three from (bitOr first second)
+  unfolding Seen
+  alt-found {one} {two} {three} sign f k = record { found = λ w x g b. go w g (spread (b .stands) 124 sign) b }
     where
-      go : (w : World) → Tabled w rows n → UpTo n from → {x : Walk} → Spread bytes at 124 (ofWalk x) → AskedBy w x n from (bitOr one two)
-      go w tabled low (alt-at v x p q) =
-          alt-asked w v x n from one two (f .found w tabled low v p) (g .found w tabled low x (end-stands marked p other there q))
+      go : (w : World) (g : Ground) {x : Walk} → Spread bytes at 124 (ofWalk x) → Begun w bytes rows n at x false g one from
+          → Asking w bytes n at x g one three from (bitOr first second)
+      go w g (alt-at v x p q) b =
+          let behind = at + 1 + length (walkText v) in
+          let u = f .found w v g (record { tabled = b .tabled; low = b .low; stands = p; ground = b .ground; told = b .told; seen = b .seen .0 }) in
+          let next = seen-beside w n x false g behind (u .outside) (inr (omega arith)) (b .seen .1) in
+          let given : Begun w bytes rows n behind x false g two from
+          = record { tabled = b .tabled; low = b .low; stands = q; ground = b .ground; told = u .told; seen = next } in
+          let t = ask-at marked at other there p k .found w x g given in
+          record {
+            asked = alt-asked (u .asked) (t .asked);
+            told = t .told;
+            seen = (seen-beside w n v false g (at + 1) (t .outside) (inl (omega arith)) (u .seen), t .seen);
+            outside = outside-then (outside-more (omega arith) (omega (arith, alt-long v x)) (u .outside))
+                (outside-more (omega arith) (omega (arith, alt-long v x)) (t .outside));
+          }

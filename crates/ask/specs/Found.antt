@@ -7,7 +7,7 @@ use lib.ListN.{length, replicate}
 use Rattle.meaning.specs.Limits.{logLimit, textLimit}
 use Rattle.meaning.specs.Theory.{World}
 use Rattle.meaning.specs.Rule.{Walk, Test, ofWalk, ofTest}
-use Rattle.meaning.specs.Leads.{Holds, Here, Many}
+use Rattle.meaning.specs.Leads.{Holds}
 use Rattle.theory.specs.Subject.{Subject, worldOf}
 use Rattle.theory.specs.Tables.{Describes}
 use Rattle.spelling.specs.declared.Digits.the-variants.{Number}
@@ -60,17 +60,7 @@ pub record LeafFound (bytes : List ℕ) (at : ℕ) (back : Bool) (rows : List �
   pub found :
       (w : World) → Tabled w rows now → UpTo now from → (x : Walk) → Leaf x → Stands bytes at (ofWalk x) → Image (Way w x back) now from answer
 
--- the same by chains of that walk
-pub record ChainFound (bytes : List ℕ) (at : ℕ) (back : Bool) (rows : List ℕ) (now : ℕ) (from answer : Set) : Type 0 where
-  pub found :
-      (w : World) → Tabled w rows now → UpTo now from → (x : Walk) → Stands bytes at (ofWalk x) → Image (Many (Way w x back)) now from answer
-
 -- the positions of the set where the test there is true
 pub record TestFound (bytes : List ℕ) (at : ℕ) (rows : List ℕ) (now : ℕ) (among answer : Set) : Type 0 where
   pub found :
       (w : World) → Tabled w rows now → UpTo now among → (x : Test) → Stands bytes at (ofTest x) → Sifted (Holds w x) now among answer
-
--- the same of a test inside a walk
-pub record HereFound (bytes : List ℕ) (at : ℕ) (rows : List ℕ) (now : ℕ) (among answer : Set) : Type 0 where
-  pub found :
-      (w : World) → Tabled w rows now → UpTo now among → (x : Test) → Stands bytes at (ofTest x) → Image (Here w (Holds w x)) now among answer

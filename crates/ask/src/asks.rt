@@ -7,7 +7,7 @@ ghost use Rattle.laws.specs.Bit.{on};
 ghost use Rattle.meaning.specs.Limits.{actionLimit};
 ghost use Rattle.positions.specs.Positions.{holds};
 ghost use Rattle.ask.specs.Found.{WalkHere};
-ghost use Rattle.ask.specs.Asked.{AskFound};
+ghost use Rattle.ask.specs.Run.{AskKept};
 use crate::evaluator;
 use crate::step;
 use positions::PositionSet;
@@ -29,7 +29,7 @@ fn waits(from: PositionSet, end: usize, these: u64) -> u64
     if from.has(end) { these } else { 0 }
 }
 
-// The actions that the walk at a place asks for at the end, from some position of a set.
+// The actions that the walk at a place asks for at the end, from some position of a set, and perhaps of those that it was given before in this run.
 pub(crate) fn asks(
     text: &[u8],
     ends: &[u8; ENDS_ROOM],
@@ -37,9 +37,10 @@ pub(crate) fn asks(
     from: PositionSet,
     end: usize,
     rows: &[u64; ROWS],
+    slots: &mut [u64],
 ) -> u64
     requires { ⌜ WalkHere (now text) (now ends) at ⌝ }
-    ensures { λ r. ⌜ AskFound (now (text .entry)) at (now (rows .entry)) end (holds from) r ⌝ }
+    ensures { λ r. ⌜ AskKept (now (text .entry)) at (now (rows .entry)) end (now (slots .entry)) (now (slots .exit)) (holds from) r ⌝ }
 {
     let sign = text[at];
     let part = at + 1;
@@ -52,20 +53,20 @@ pub(crate) fn asks(
         b'n' => waits(from, end, !0),
         b';' => {
             let other = evaluator::second(ends, at);
-            let middle = evaluator::walk(text, ends, part, from, end, false, rows);
-            let first = asks(text, ends, part, from, end, rows);
-            let then = asks(text, ends, other, middle, end, rows);
+            let middle = evaluator::walk(text, ends, part, from, end, false, rows, slots);
+            let first = asks(text, ends, part, from, end, rows, slots);
+            let then = asks(text, ends, other, middle, end, rows, slots);
             first | then
         }
         b'|' => {
             let other = evaluator::second(ends, at);
-            let first = asks(text, ends, part, from, end, rows);
-            let or = asks(text, ends, other, from, end, rows);
+            let first = asks(text, ends, part, from, end, rows, slots);
+            let or = asks(text, ends, other, from, end, rows, slots);
             first | or
         }
         b'*' => {
-            let held = evaluator::walk(text, ends, at, from, end, false, rows);
-            asks(text, ends, part, held, end, rows)
+            let held = evaluator::walk(text, ends, at, from, end, false, rows, slots);
+            asks(text, ends, part, held, end, rows, slots)
         }
         _ => 0,
     }

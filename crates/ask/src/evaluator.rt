@@ -1,10 +1,16 @@
 // The evaluator: a walk function and a test function that call one another over the text, sets of positions in and out. Knows the text, where each rule
-// of it ends, and the tables of the log.
+// of it ends, the tables of the log, and what the run keeps in its slots.
 ghost use mathlib.Core.Path.{_≡_};
+ghost use mathlib.Core.Bool.{cond};
 ghost use Prim.Native.Nat.{_+_, _<_};
 ghost use lib.ListN.{length, getD};
 ghost use Rattle.positions.specs.Positions.{holds};
-ghost use Rattle.ask.specs.Found.{WalkHere, TestHere, WalkFound, ChainFound, TestFound, HereFound};
+ghost use Rattle.ask.specs.Found.{WalkHere, TestHere};
+ghost use Rattle.ask.specs.Run.{WalkKept, TestKept, HereKept};
+ghost use Rattle.ask.specs.Slots.{StarsTo};
+use crate::slots::clear;
+use crate::slots::keep;
+use crate::slots::kept;
 use crate::step::leaf;
 use crate::step::row;
 use crate::step::wide;
@@ -23,7 +29,32 @@ pub(crate) fn second(ends: &[u8], at: usize) -> usize
     wide(ends[part])
 }
 
-// The positions that the walk at a place leads to from those of a set; with `back`, its converse.
+// Of two parts, the one that is walked first: under a converse the second.
+fn turned(back: bool, part: usize, other: usize) -> usize
+    ensures { λ r. ⌜ r ≡ cond back other part ⌝ }
+{
+    if back { other } else { part }
+}
+
+// The last star of a run of them: a star of a star is one star.
+fn last_star(text: &[u8], at: usize) -> usize
+    requires { ⌜ at < length (now text) ⌝ }
+    ensures { λ r. ⌜ StarsTo (now (text .entry)) at r ⌝ }
+{
+    let mut last = at;
+    let mut next = at + 1;
+    while next < text.len() {
+        if text[next] != b'*' {
+            return last;
+        }
+        last = next;
+        next += 1;
+    }
+    last
+}
+
+// The positions that the walk at a place leads to from those of a set, and perhaps from those that it was given before in this run; with `back`, its
+// converse.
 pub(crate) fn walk(
     text: &[u8],
     ends: &[u8; ENDS_ROOM],
@@ -32,37 +63,38 @@ pub(crate) fn walk(
     now: usize,
     back: bool,
     rows: &[u64; ROWS],
+    slots: &mut [u64],
 ) -> PositionSet
     requires { ⌜ WalkHere (text .now) (ends .now) at ⌝ }
-    ensures { λ r. ⌜ WalkFound (text .entry .now) at back (rows .entry .now) now (holds from) (holds r) ⌝ }
+    ensures { λ r. ⌜ WalkKept (text .entry .now) at back (rows .entry .now) now (slots .entry .now) (slots .exit .now) (holds from) (holds r) ⌝ }
 {
     let sign = text[at];
     let part = at + 1;
     match sign {
         b';' => {
             let other = second(ends, at);
-            if back {
-                let middle = walk(text, ends, other, from, now, back, rows);
-                walk(text, ends, part, middle, now, back, rows)
-            } else {
-                let middle = walk(text, ends, part, from, now, back, rows);
-                walk(text, ends, other, middle, now, back, rows)
-            }
+            let first = turned(back, part, other);
+            let then = turned(!back, part, other);
+            let middle = walk(text, ends, first, from, now, back, rows, slots);
+            walk(text, ends, then, middle, now, back, rows, slots)
         }
         b'|' => {
             let other = second(ends, at);
-            let one = walk(text, ends, part, from, now, back, rows);
-            let two = walk(text, ends, other, from, now, back, rows);
+            let one = walk(text, ends, part, from, now, back, rows, slots);
+            let two = walk(text, ends, other, from, now, back, rows, slots);
             one.join(two)
         }
-        b'*' => star(text, ends, part, from, now, back, rows),
-        b'?' => here(text, ends, part, from, now, rows),
-        b'-' => walk(text, ends, part, from, now, !back, rows),
+        b'*' => {
+            let last = last_star(text, at);
+            star(text, ends, last, from, now, back, rows, slots)
+        }
+        b'?' => here(text, ends, at, from, now, rows, slots),
+        b'-' => walk(text, ends, part, from, now, !back, rows, slots),
         _ => leaf(text, at, from, now, back, rows),
     }
 }
 
-// The positions that chains of the walk at a place lead to from those of a set. A star of a star is one star.
+// The same of the star at a place: on from the ground that it has not seen in this run.
 fn star(
     text: &[u8],
     ends: &[u8; ENDS_ROOM],
@@ -71,27 +103,24 @@ fn star(
     now: usize,
     back: bool,
     rows: &[u64; ROWS],
+    slots: &mut [u64],
 ) -> PositionSet
-    requires { ⌜ WalkHere (text .now) (ends .now) at ⌝ }
-    ensures { λ r. ⌜ ChainFound (text .entry .now) at back (rows .entry .now) now (holds from) (holds r) ⌝ }
+    requires { ⌜ WalkHere (text .now) (ends .now) at × (getD (text .now) at 0 ≡ 42) ⌝ }
+    ensures { λ r. ⌜ WalkKept (text .entry .now) at back (rows .entry .now) now (slots .entry .now) (slots .exit .now) (holds from) (holds r) ⌝ }
 {
-    let sign = text[at];
-    if sign == b'*' {
-        let part = at + 1;
-        return star(text, ends, part, from, now, back, rows);
+    let part = at + 1;
+    let mut seen = kept(slots, at);
+    let mut new = from.without(seen);
+    while !new.is_empty() {
+        seen = seen.join(new);
+        let more = walk(text, ends, part, new, now, back, rows, slots);
+        new = more.without(seen);
     }
-    let mut held = from;
-    loop {
-        let more = walk(text, ends, at, held, now, back, rows);
-        let all = held.join(more);
-        if all.within(held) {
-            return all;
-        }
-        held = all;
-    }
+    keep(slots, at, seen);
+    seen
 }
 
-// The positions of a set where the test at a place is true as a test inside a walk: each position is its own now.
+// The positions of a set where the test of the `?` at a place is true. Each position is its own now, so that the test is asked once at it.
 fn here(
     text: &[u8],
     ends: &[u8; ENDS_ROOM],
@@ -99,20 +128,27 @@ fn here(
     among: PositionSet,
     now: usize,
     rows: &[u64; ROWS],
+    slots: &mut [u64],
 ) -> PositionSet
-    requires { ⌜ TestHere (text .now) (ends .now) at ⌝ }
-    ensures { λ r. ⌜ HereFound (text .entry .now) at (rows .entry .now) now (holds among) (holds r) ⌝ }
+    requires { ⌜ WalkHere (text .now) (ends .now) at × (getD (text .now) at 0 ≡ 63) ⌝ }
+    ensures { λ r. ⌜ HereKept (text .entry .now) at (rows .entry .now) now (slots .entry .now) (slots .exit .now) (holds among) (holds r) ⌝ }
 {
-    let mut left = among;
-    let mut kept = PositionSet::EMPTY;
+    let part = at + 1;
+    let asked = kept(slots, part);
+    let told = kept(slots, at);
+    let mut held = told.meet(asked);
+    let mut left = among.without(asked);
     while !left.is_empty() {
         let own = left.earliest();
         let one = PositionSet::at(own);
-        let there = test(text, ends, at, one, own, rows);
-        kept = kept.join(there);
+        let there = test(text, ends, part, one, own, rows, slots);
+        held = held.join(there);
         left = left.without(one);
     }
-    kept
+    let all = asked.join(among);
+    keep(slots, at, held);
+    keep(slots, part, all);
+    among.meet(held)
 }
 
 // The positions of a set where the test at a place is true.
@@ -123,9 +159,10 @@ pub(crate) fn test(
     among: PositionSet,
     now: usize,
     rows: &[u64; ROWS],
+    slots: &mut [u64],
 ) -> PositionSet
     requires { ⌜ TestHere (text .now) (ends .now) at ⌝ }
-    ensures { λ r. ⌜ TestFound (text .entry .now) at (rows .entry .now) now (holds among) (holds r) ⌝ }
+    ensures { λ r. ⌜ TestKept (text .entry .now) at (rows .entry .now) now (slots .entry .now) (slots .exit .now) (holds among) (holds r) ⌝ }
 {
     let sign = text[at];
     let part = at + 1;
@@ -136,20 +173,21 @@ pub(crate) fn test(
             among.meet(shown)
         }
         b'!' => {
-            let there = test(text, ends, part, among, now, rows);
+            let there = test(text, ends, part, among, now, rows, slots);
             among.without(there)
         }
         b'&' => {
             let other = second(ends, at);
-            let one = test(text, ends, part, among, now, rows);
-            test(text, ends, other, one, now, rows)
+            let one = test(text, ends, part, among, now, rows, slots);
+            test(text, ends, other, one, now, rows, slots)
         }
-        // `<`: from every position where the test is true, the walk backwards
+        // `<`: from every position where the test is true, the walk backwards, in a run of its own
         _ => {
             let other = second(ends, at);
             let all = PositionSet::up_to(now);
-            let there = test(text, ends, other, all, now, rows);
-            let starts = walk(text, ends, part, there, now, true, rows);
+            let there = test(text, ends, other, all, now, rows, slots);
+            clear(text, slots, part, other);
+            let starts = walk(text, ends, part, there, now, true, rows, slots);
             among.meet(starts)
         }
     }

@@ -2,8 +2,7 @@
 // made once, since the job stays while the log grows.
 ghost use Rattle.theory.specs.Subject.{subjectOf};
 ghost use Rattle.ask.specs.Asked.{JobHere, EndTold, AskTold};
-use crate::asks::asks;
-use crate::evaluator;
+use crate::run;
 use positions::PositionSet;
 use rule::ends::ENDS_ROOM;
 use theory::Setting;
@@ -19,7 +18,7 @@ pub fn ended(s: Setting, masks: &[u32], log: &[u8], job: &[u8], ends: &[u8; ENDS
     transpose(s, masks, log, &mut rows);
     let end = log.len();
     let front = PositionSet::at(0);
-    let reached = evaluator::walk(job, ends, 0, front, end, false, &rows);
+    let reached = run::walk(job, ends, front, end, &rows);
     reached.has(end)
 }
 
@@ -32,5 +31,5 @@ pub fn asked(s: Setting, masks: &[u32], log: &[u8], job: &[u8], ends: &[u8; ENDS
     transpose(s, masks, log, &mut rows);
     let end = log.len();
     let front = PositionSet::at(0);
-    asks(job, ends, 0, front, end, &rows)
+    run::asks(job, ends, front, end, &rows)
 }

@@ -12,6 +12,8 @@ mod checks; // checks.rt: which refusal a question is given
 mod evaluator; // evaluator.rt: the walk function and the test function
 pub mod job; // job.rt: a job over a log as it stands
 mod layout; // layout.rt: what the evaluator reads of a question
+mod run; // run.rt: a rule from its first place on, with slots where it keeps something
+mod slots; // slots.rt: what a run keeps
 mod step; // step.rt: the signs with no part
 
 use checks::check;
@@ -60,7 +62,7 @@ pub fn reach(
             let mut rows = [0u64; ROWS];
             lay_out(s, masks, log, walk, &mut ends, &mut rows);
             let from = PositionSet::at(then);
-            let found = evaluator::walk(walk, &ends, 0, from, now, false, &rows);
+            let found = run::walk(walk, &ends, from, now, &rows);
             let set = found.word();
             let count = found.count();
             let earliest = found.earliest();
@@ -82,7 +84,7 @@ pub fn judged(s: Setting, masks: &[u32], log: &[u8], test: &[u8], then: usize, n
     let mut rows = [0u64; ROWS];
     lay_out(s, masks, log, test, &mut ends, &mut rows);
     let among = PositionSet::at(then);
-    let kept = evaluator::test(test, &ends, 0, among, now, &rows);
+    let kept = run::test(test, &ends, among, now, &rows);
     kept.has(then)
 }
 

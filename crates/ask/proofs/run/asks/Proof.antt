@@ -1,0 +1,27 @@
+-- `ask::run::asks` meets its contract: with a slot for each place, or with none.
+use borrow.Author.Needs.{needs}
+use Rattle.ask.proofs.Keeping.{nothing-kept}
+use Rattle.ask.proofs.Runs.{ask-exact}
+use Rattle.ask.proofs.run.asks.Statement.{statement}
+use Rattle.ask.proofs.run.asks.Tie as tie
+
+keeps-requires : tie.Need-keeps-requires
+keeps-requires c κs = search needs
+
+asks-keeping-requires : tie.Need-asks-keeping-requires
+asks-keeping-requires c κs = search needs
+
+returns : tie.Need-returns
+returns c = search needs
+
+slice-aggregate-asks : tie.Need-slice-aggregate-asks
+slice-aggregate-asks c = search needs
+
+asks-requires : tie.Need-asks-requires
+asks-requires c κs = search needs
+
+returns-2 : tie.Need-returns-2
+returns-2 c = ask-exact (nothing-kept 0) (c .before .asks .ensures)
+
+pub asks-spec : {M : Type 1} → statement M
+asks-spec = tie.close (tie.spec keeps-requires asks-keeping-requires returns slice-aggregate-asks asks-requires returns-2)

@@ -1,0 +1,20 @@
+-- `ask::run::asks_keeping` meets its contract: a table that is lent has nothing yet.
+use borrow.Author.Needs.{needs}
+use Prim.Native.Nat.{_+_}
+use Rattle.meaning.specs.Limits.{textLimit}
+use Rattle.ask.proofs.Keeping.{nothing-kept}
+use Rattle.ask.proofs.Runs.{ask-exact}
+use Rattle.ask.proofs.run.asks_keeping.Statement.{statement}
+use Rattle.ask.proofs.run.asks_keeping.Tie as tie
+
+slice-aggregate-asks : tie.Need-slice-aggregate-asks
+slice-aggregate-asks c = search needs
+
+asks-requires : tie.Need-asks-requires
+asks-requires c κs = search needs
+
+returns : tie.Need-returns
+returns c = ask-exact (nothing-kept (textLimit + 1)) (c .before .asks .ensures)
+
+pub asks-keeping-spec : {M : Type 1} → statement M
+asks-keeping-spec = tie.close (tie.spec slice-aggregate-asks asks-requires returns)

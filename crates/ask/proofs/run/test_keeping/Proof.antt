@@ -1,0 +1,20 @@
+-- `ask::run::test_keeping` meets its contract: a table that is lent has nothing yet.
+use borrow.Author.Needs.{needs}
+use Prim.Native.Nat.{_+_}
+use Rattle.meaning.specs.Limits.{textLimit}
+use Rattle.ask.proofs.Keeping.{nothing-kept}
+use Rattle.ask.proofs.Runs.{test-exact}
+use Rattle.ask.proofs.run.test_keeping.Statement.{statement}
+use Rattle.ask.proofs.run.test_keeping.Tie as tie
+
+slice-aggregate-test : tie.Need-slice-aggregate-test
+slice-aggregate-test c = search needs
+
+test-requires : tie.Need-test-requires
+test-requires c κs = search needs
+
+returns : tie.Need-returns
+returns c = test-exact (nothing-kept (textLimit + 1)) (c .before .test .ensures)
+
+pub test-keeping-spec : {M : Type 1} → statement M
+test-keeping-spec = tie.close (tie.spec slice-aggregate-test test-requires returns)

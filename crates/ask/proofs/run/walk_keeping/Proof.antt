@@ -1,0 +1,20 @@
+-- `ask::run::walk_keeping` meets its contract: a table that is lent has nothing yet.
+use borrow.Author.Needs.{needs}
+use Prim.Native.Nat.{_+_}
+use Rattle.meaning.specs.Limits.{textLimit}
+use Rattle.ask.proofs.Keeping.{nothing-kept}
+use Rattle.ask.proofs.Runs.{walk-exact}
+use Rattle.ask.proofs.run.walk_keeping.Statement.{statement}
+use Rattle.ask.proofs.run.walk_keeping.Tie as tie
+
+slice-aggregate-walk : tie.Need-slice-aggregate-walk
+slice-aggregate-walk c = search needs
+
+walk-requires : tie.Need-walk-requires
+walk-requires c κs = search needs
+
+returns : tie.Need-returns
+returns c = walk-exact (nothing-kept (textLimit + 1)) (c .before .walk .ensures)
+
+pub walk-keeping-spec : {M : Type 1} → statement M
+walk-keeping-spec = tie.close (tie.spec slice-aggregate-walk walk-requires returns)

@@ -1,0 +1,100 @@
+-- What is kept in a run, one walk with one now, and why it may be used again. "Ground once walked by a star is not walked again in the same run, and a test
+-- inside a walk is not asked twice at the same position."
+use mathlib.Core.Path.{_≡_}
+use mathlib.Core.Logic.{_↔_}
+use mathlib.Core.Bool.{Bool, true, false, not}
+use mathlib.Core.List.{List}
+use Prim.Native.Nat.{ℕ, _+_, _<_}
+use lib.ListN.{length, getD}
+use Rattle.laws.specs.Bit.{on}
+use Rattle.meaning.specs.Limits.{actionLimit}
+use Rattle.meaning.specs.Theory.{World}
+use Rattle.meaning.specs.Rule.{Walk, Test, act, undo, next, prev, seq, alt, star, check, conv, ofWalk, ofTest, walkText, testText}
+use Rattle.meaning.specs.Leads.{Holds}
+use Rattle.meaning.specs.Asks.{Asks}
+use Rattle.rule.specs.Standing.{Stands}
+use Rattle.ask.specs.Image.{Set, UpTo, Sifted, Way}
+use Rattle.ask.specs.Slots.{slot, Outside}
+use Rattle.ask.specs.Found.{Tabled}
+
+-- The ground that a sign may be given in a run: where the run starts, led on by the walks on the way to the sign.
+pub data Ground : Type 0 where
+  start : Set → Ground
+  led : Ground → Walk → Bool → Ground
+
+-- position q lies on it
+abbrev pub Lies : World → ℕ → Ground → ℕ → Type 0
+Lies w n (start s) q = s q ≡ true
+Lies w n (led g x back) q = (p : ℕ) × Lies w n g p × Way w x back p q n
+
+-- what a star of this walk has seen: ground that chains lead to, and whatever its walk leads to from there
+pub record Chained (w : World) (n : ℕ) (x : Walk) (back : Bool) (g : Ground) (seen : Set) : Type 0 where
+  pub sound : (q : ℕ) → seen q ≡ true → Lies w n (led g (star x) back) q
+  pub closed : (p q : ℕ) → seen p ≡ true → Way w x back p q n → seen q ≡ true
+
+-- so it is of every star of a walk that stands at a place and is given this ground
+unfoldable pub Seen : World → ℕ → List ℕ → ℕ → Walk → Bool → Ground → Type 0
+Seen w n slots at (act a) back g = Unit {0}
+Seen w n slots at (undo a) back g = Unit {0}
+Seen w n slots at next back g = Unit {0}
+Seen w n slots at prev back g = Unit {0}
+Seen w n slots at (seq v x) false g = Seen w n slots (at + 1) v false g × Seen w n slots (at + 1 + length (walkText v)) x false (led g v false)
+Seen w n slots at (seq v x) true g = Seen w n slots (at + 1 + length (walkText v)) x true g × Seen w n slots (at + 1) v true (led g x true)
+Seen w n slots at (alt v x) back g = Seen w n slots (at + 1) v back g × Seen w n slots (at + 1 + length (walkText v)) x back g
+Seen w n slots at (star x) back g = Chained w n x back g (slot slots at) × Seen w n slots (at + 1) x back (led g (star x) back)
+Seen w n slots at (check t) back g = Unit {0}
+Seen w n slots at (conv x) back g = Seen w n slots (at + 1) x (not back) g
+
+-- where a `?` was asked, its own slot says whether its test is true; each position is its own now, so that this holds for every run
+pub record Told (w : World) (bytes slots : List ℕ) : Type 0 where
+  pub each : (i : ℕ) → getD bytes i 0 ≡ 63 → (x : Test) → Stands bytes (i + 1) (ofTest x) → (p : ℕ) → slot slots (i + 1) p ≡ true
+      → (slot slots i p ≡ true) ↔ Holds w x p p
+
+-- a walk is begun from a set on its ground, with slots that are right for it
+pub record Begun (w : World) (bytes rows : List ℕ) (n at : ℕ) (x : Walk) (back : Bool) (g : Ground) (slots : List ℕ) (from : Set) : Type 0 where
+  pub tabled : Tabled w rows n
+  pub low : UpTo n from
+  pub stands : Stands bytes at (ofWalk x)
+  pub ground : (q : ℕ) → from q ≡ true → Lies w n g q
+  pub told : Told w bytes slots
+  pub seen : Seen w n slots at x back g
+
+-- the answer has where it leads from the set, and nothing but where it leads from its ground; the slots are still right, and no other is changed
+pub record Walked (w : World) (bytes : List ℕ) (n at : ℕ) (x : Walk) (back : Bool) (g : Ground) (before after : List ℕ) (from answer : Set) : Type 0 where
+  pub least : (p q : ℕ) → from p ≡ true → Way w x back p q n → answer q ≡ true
+  pub most : (q : ℕ) → answer q ≡ true → Lies w n (led g x back) q
+  pub told : Told w bytes after
+  pub seen : Seen w n after at x back g
+  pub outside : Outside at (at + length (walkText x)) before after
+
+-- a test asks nothing of what stars have seen; it has runs of its own
+pub record Tested (w : World) (bytes : List ℕ) (n at : ℕ) (x : Test) (before after : List ℕ) (among answer : Set) : Type 0 where
+  pub sifted : Sifted (Holds w x) n among answer
+  pub told : Told w bytes after
+  pub outside : Outside (at + 1) (at + length (testText x)) before after
+
+-- What the evaluator's functions answer, for every world that the rows describe, every rule that stands at the place and every ground that the slots are right for.
+pub record WalkKept (bytes : List ℕ) (at : ℕ) (back : Bool) (rows : List ℕ) (n : ℕ) (before after : List ℕ) (from answer : Set) : Type 0 where
+  pub found : (w : World) (x : Walk) (g : Ground) → Begun w bytes rows n at x back g before from → Walked w bytes n at x back g before after from answer
+
+pub record TestKept (bytes : List ℕ) (at : ℕ) (rows : List ℕ) (n : ℕ) (before after : List ℕ) (among answer : Set) : Type 0 where
+  pub found : (w : World) → Tabled w rows n → UpTo n among → (x : Test) → Stands bytes at (ofTest x) → Told w bytes before
+      → Tested w bytes n at x before after among answer
+
+-- a `?`, the same both ways
+pub record HereKept (bytes : List ℕ) (at : ℕ) (rows : List ℕ) (n : ℕ) (before after : List ℕ) (among answer : Set) : Type 0 where
+  pub found : (back : Bool) → WalkKept bytes at back rows n before after among answer
+
+-- The actions that a walk asks for at now: those from the set, and none but from its ground.
+pub record AskedOn (w : World) (x : Walk) (n : ℕ) (g : Ground) (from : Set) (word : ℕ) : Type 0 where
+  pub least : (p a : ℕ) → a < actionLimit → from p ≡ true → Asks w x p n a → on word a ≡ true
+  pub most : (a : ℕ) → a < actionLimit → on word a ≡ true → (p : ℕ) × Lies w n g p × Asks w x p n a
+
+pub record Asking (w : World) (bytes : List ℕ) (n at : ℕ) (x : Walk) (g : Ground) (before after : List ℕ) (from : Set) (word : ℕ) : Type 0 where
+  pub asked : AskedOn w x n g from word
+  pub told : Told w bytes after
+  pub seen : Seen w n after at x false g
+  pub outside : Outside at (at + length (walkText x)) before after
+
+pub record AskKept (bytes : List ℕ) (at : ℕ) (rows : List ℕ) (n : ℕ) (before after : List ℕ) (from : Set) (word : ℕ) : Type 0 where
+  pub found : (w : World) (x : Walk) (g : Ground) → Begun w bytes rows n at x false g before from → Asking w bytes n at x g before after from word

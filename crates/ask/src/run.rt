@@ -1,0 +1,168 @@
+// A rule from the text's first place on: one run, or for a test its runs. A rule that keeps something in a run is lent a slot for each place; any other gets
+// none, and pays for none.
+ghost use mathlib.Core.Bool.{false};
+ghost use Rattle.positions.specs.Positions.{holds};
+ghost use Rattle.ask.specs.Found.{WalkHere, TestHere, WalkFound, TestFound};
+ghost use Rattle.ask.specs.Asked.{AskFound};
+use crate::asks;
+use crate::evaluator;
+use crate::step::wide;
+use positions::PositionSet;
+use rule::ends::ENDS_ROOM;
+use theory::tables::ROWS;
+
+// Two of the signs `*` and `?` stand in the text: a quick look at the bytes, since in most rules they do not.
+fn twice(text: &[u8]) -> bool {
+    let mut once = false;
+    let mut i = 0;
+    while i < text.len() {
+        let sign = text[i];
+        if sign == b'*' || sign == b'?' {
+            if once {
+                return true;
+            }
+            once = true;
+        }
+        i += 1;
+    }
+    false
+}
+
+// A star is inside a star, and not right behind it, or a `?` is inside a star or inside the test of a `?`. Otherwise no sign is met twice with the same ground.
+fn nested(text: &[u8], ends: &[u8; ENDS_ROOM]) -> bool {
+    let mut run = false;
+    let mut star_end = 0;
+    let mut ask_end = 0;
+    let mut i = 0;
+    while i < text.len() {
+        if ENDS_ROOM <= i {
+            return true;
+        }
+        let end = wide(ends[i]);
+        let sign = text[i];
+        let star = sign == b'*';
+        if star {
+            if star_end <= i {
+                star_end = end;
+            } else if !run {
+                return true;
+            }
+        }
+        if sign == b'?' {
+            if i < star_end {
+                return true;
+            }
+            if i < ask_end {
+                return true;
+            }
+            ask_end = end;
+        }
+        run = star;
+        i += 1;
+    }
+    false
+}
+
+// Whether slots are worth lending. An answer is right with slots and without.
+fn keeps(text: &[u8], ends: &[u8; ENDS_ROOM]) -> bool {
+    if twice(text) {
+        return nested(text, ends);
+    }
+    false
+}
+
+// The positions that the walk leads to from those of a set.
+pub(crate) fn walk(
+    text: &[u8],
+    ends: &[u8; ENDS_ROOM],
+    from: PositionSet,
+    now: usize,
+    rows: &[u64; ROWS],
+) -> PositionSet
+    requires { ⌜ WalkHere (text .now) (ends .now) 0 ⌝ }
+    ensures { λ r. ⌜ WalkFound (text .entry .now) 0 false (rows .entry .now) now (holds from) (holds r) ⌝ }
+{
+    if keeps(text, ends) {
+        return walk_keeping(text, ends, from, now, rows);
+    }
+    let mut none = [0u64; 0];
+    evaluator::walk(text, ends, 0, from, now, false, rows, &mut none)
+}
+
+fn walk_keeping(
+    text: &[u8],
+    ends: &[u8; ENDS_ROOM],
+    from: PositionSet,
+    now: usize,
+    rows: &[u64; ROWS],
+) -> PositionSet
+    requires { ⌜ WalkHere (text .now) (ends .now) 0 ⌝ }
+    ensures { λ r. ⌜ WalkFound (text .entry .now) 0 false (rows .entry .now) now (holds from) (holds r) ⌝ }
+{
+    let mut slots = [0u64; ENDS_ROOM];
+    evaluator::walk(text, ends, 0, from, now, false, rows, &mut slots)
+}
+
+// The positions of a set where the test is true.
+pub(crate) fn test(
+    text: &[u8],
+    ends: &[u8; ENDS_ROOM],
+    among: PositionSet,
+    now: usize,
+    rows: &[u64; ROWS],
+) -> PositionSet
+    requires { ⌜ TestHere (text .now) (ends .now) 0 ⌝ }
+    ensures { λ r. ⌜ TestFound (text .entry .now) 0 (rows .entry .now) now (holds among) (holds r) ⌝ }
+{
+    if keeps(text, ends) {
+        return test_keeping(text, ends, among, now, rows);
+    }
+    let mut none = [0u64; 0];
+    evaluator::test(text, ends, 0, among, now, rows, &mut none)
+}
+
+fn test_keeping(
+    text: &[u8],
+    ends: &[u8; ENDS_ROOM],
+    among: PositionSet,
+    now: usize,
+    rows: &[u64; ROWS],
+) -> PositionSet
+    requires { ⌜ TestHere (text .now) (ends .now) 0 ⌝ }
+    ensures { λ r. ⌜ TestFound (text .entry .now) 0 (rows .entry .now) now (holds among) (holds r) ⌝ }
+{
+    let mut slots = [0u64; ENDS_ROOM];
+    evaluator::test(text, ends, 0, among, now, rows, &mut slots)
+}
+
+// The actions that the walk asks for at the end, from some position of a set.
+pub(crate) fn asks(
+    text: &[u8],
+    ends: &[u8; ENDS_ROOM],
+    from: PositionSet,
+    end: usize,
+    rows: &[u64; ROWS],
+) -> u64
+    requires { ⌜ WalkHere (text .now) (ends .now) 0 ⌝ }
+    ensures { λ r. ⌜ AskFound (text .entry .now) 0 (rows .entry .now) end (holds from) r ⌝ }
+{
+    if keeps(text, ends) {
+        return asks_keeping(text, ends, from, end, rows);
+    }
+    let mut none = [0u64; 0];
+    asks::asks(text, ends, 0, from, end, rows, &mut none)
+}
+
+fn asks_keeping(
+    text: &[u8],
+    ends: &[u8; ENDS_ROOM],
+    from: PositionSet,
+    end: usize,
+    rows: &[u64; ROWS],
+) -> u64
+    requires { ⌜ WalkHere (text .now) (ends .now) 0 ⌝ }
+    ensures { λ r. ⌜ AskFound (text .entry .now) 0 (rows .entry .now) end (holds from) r ⌝ }
+{
+    let mut slots = [0u64; ENDS_ROOM];
+    asks::asks(text, ends, 0, from, end, rows, &mut slots)
+}
