@@ -73,6 +73,33 @@ static void normal(const struct wyh_job *job, const char *walk, size_t room) {
     printf("  \"%.*s\"\n", (int)count, (const char *)form);
 }
 
+/* The tally of the log; one action appended; one that the theory lacks. Each time: counts and places of the three actions, the rest, and which have happened. */
+static void show_tally(const struct wyh_job *job, const struct wyh_tally *tally) {
+    size_t a;
+    printf("  counts %d %d %d, last %d %d %d, ", tally->counts[0], tally->counts[1], tally->counts[2], tally->last[0], tally->last[1], tally->last[2]);
+    printf("impossible %d, %d steps, state %08lx, happened:", tally->impossible, tally->steps, (unsigned long)tally->state);
+    for (a = 0; a < 3; a++) {
+        uint8_t yes;
+        wyh_tally_happened(job, tally, a, &yes);
+        printf(" %s", yes ? "yes" : "no");
+    }
+    printf("\n");
+}
+
+static void tallies(const struct wyh_job *job) {
+    struct wyh_tally tally;
+    uint8_t yes;
+    memset(&tally, 0, sizeof tally);
+    told("tally", wyh_job_tally(job, &tally));
+    show_tally(job, &tally);
+    told("append 2", wyh_job_append(job, &tally, 2));
+    told("append 1", wyh_job_append(job, &tally, 1));
+    show_tally(job, &tally);
+    told("append 3", wyh_job_append(job, &tally, 3));
+    show_tally(job, &tally);
+    told("happened 3", wyh_tally_happened(job, &tally, 3, &yes));
+}
+
 static void read_sheet(const char *text) {
     uint32_t masks[WYH_MASKS_ROOM];
     uint8_t log[WYH_LOG_ROOM];
@@ -98,6 +125,7 @@ static void nothing(const struct wyh_job *job) {
     const struct wyh_job empty = WYH_JOB_EMPTY;
     struct wyh_reached reached;
     struct wyh_sheet sheet;
+    struct wyh_tally tally;
     uint32_t state, masks[WYH_MASKS_ROOM];
     uint64_t set;
     uint8_t yes, log[WYH_LOG_ROOM];
@@ -106,6 +134,7 @@ static void nothing(const struct wyh_job *job) {
     told("no walk", wyh_job_reach(job, NULL, 0, 0, 0, &reached));
     told("no test", wyh_job_verdict(job, NULL, 0, 0, 0, &yes));
     told("no run", wyh_job_next(job, NULL, 0, &set));
+    told("no tally", wyh_job_tally(&empty, &tally));
     told("no sheet", wyh_job_read_sheet(NULL, 0, masks, log, &sheet));
     told("no output for no action", wyh_job_finish(job, bytes("*n"), 2, 0, NULL, 0, &count));
     told("no output for one action", wyh_job_finish(job, bytes("*n"), 2, 1, NULL, 0, &count));
@@ -149,6 +178,7 @@ int main(void) {
     read_rule(&job, WYH_RUN, "u");
     normal(&job, "-;a00*n", WYH_RULE_ROOM);
     normal(&job, "-;a00*n", 5);
+    tallies(&job);
     nothing(&job);
     read_sheet(sheet);
     read_sheet("sheet=0\n");

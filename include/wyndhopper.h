@@ -23,7 +23,7 @@
 #include <stddef.h>
 #include <stdint.h>
 
-#define WYH_VERSION "0.3.0"
+#define WYH_VERSION "0.4.0"
 
 #ifdef __cplusplus
 extern "C" {
@@ -85,6 +85,18 @@ struct wyh_reached {
     size_t earliest;
 };
 
+/* A running tally beside the log of one job, lent to be updated at every append. A place is kept as the position after the step, 0 for none. Two bytes at the end are unused, so compare two
+ * tallies field by field. A tally that the library did not make is taken by its fields as they stand. */
+enum { WYH_TALLY_ACTIONS = 64 };
+
+struct wyh_tally {
+    uint8_t counts[WYH_TALLY_ACTIONS]; /* of each action, how often it was taken where it was possible */
+    uint8_t last[WYH_TALLY_ACTIONS];   /* of each action, the place of the last such step */
+    uint32_t state;                    /* the state at the log's end */
+    uint8_t steps;                     /* the log's steps */
+    uint8_t impossible;                /* the place of the last step that was not possible */
+};
+
 /* What a sheet says: the job, whose masks and log stand in the lent arrays; the rules of its ask and run lines, which stand in the sheet's text; the bound on actions still to come. For a refused sheet
  * the line of the fault (0 for a sheet that is too long), and zero in all else. */
 struct wyh_sheet {
@@ -114,6 +126,13 @@ struct wyh_sheet {
  *
  * The last two look at the job's counts alone.
  *
+ *   wyh_job_tally       the tally of the job's log, made afresh in *tally. Refusals 3, 4, 5; *tally then keeps every field.
+ *   wyh_job_append      takes one action more into *tally; the job's own log is not looked at. An action that is not possible is taken in too: its effects apply, and the last impossible step
+ *                       moves. Refusals 3, 4, 5 (the tally has 63 steps or more, or the theory lacks the action); *tally then keeps every field. A count of 63 or more stays as it is.
+ *   wyh_tally_happened  whether an action has happened, with only possible steps since: its last place is greater than that of the last impossible step; *yes is 1 or 0. It is the verdict of
+ *                       `<-;aNN*n1` at the log's end, for a tally made from that theory and log, afresh or by appends. Of the job it looks at the count of actions alone. Refusals 3 (that count),
+ *                       7 (the theory lacks the action); *yes is then 0.
+ *
  *   wyh_job_read_sheet  reads a whole sheet: masks and log go to the front of the lent arrays, and *sheet says the rest. Refusals 1 to 9, for the first faulty line; then masks and log
  *                       keep what they hold. */
 static inline uint8_t wyh_job_state(const struct wyh_job *job, size_t position, uint32_t *state);
@@ -124,6 +143,9 @@ static inline uint8_t wyh_job_next(const struct wyh_job *job, const uint8_t *run
 static inline uint8_t wyh_job_finish(const struct wyh_job *job, const uint8_t *run, size_t run_len, size_t more, uint8_t *out, size_t room, size_t *count);
 static inline uint8_t wyh_job_read_rule(const struct wyh_job *job, uint8_t kind, const uint8_t *text, size_t text_len, size_t *rest);
 static inline uint8_t wyh_job_normal(const struct wyh_job *job, uint8_t kind, const uint8_t *text, size_t text_len, uint8_t *out, size_t room, size_t *count);
+static inline uint8_t wyh_job_tally(const struct wyh_job *job, struct wyh_tally *tally);
+static inline uint8_t wyh_job_append(const struct wyh_job *job, struct wyh_tally *tally, size_t action);
+static inline uint8_t wyh_tally_happened(const struct wyh_job *job, const struct wyh_tally *tally, size_t action, uint8_t *yes);
 static inline uint8_t wyh_job_read_sheet(const uint8_t *text, size_t text_len, uint32_t masks[WYH_MASKS_ROOM], uint8_t log[WYH_LOG_ROOM], struct wyh_sheet *sheet);
 
 /* A refusal's sentence, for a message; 0 is "not refused". */
@@ -153,6 +175,14 @@ uint8_t wyh_finish(size_t fluents, size_t actions, uint32_t start, const uint32_
 uint8_t wyh_read_rule(const uint8_t *text, size_t text_len, uint8_t kind, size_t fluents, size_t actions, size_t *rest);
 
 uint8_t wyh_normal(const uint8_t *text, size_t text_len, uint8_t kind, size_t fluents, size_t actions, uint8_t *out, size_t room, size_t *count);
+
+uint8_t wyh_tally(size_t fluents, size_t actions, uint32_t start, const uint32_t *masks, size_t masks_len, const uint8_t *log, size_t log_len,
+                  struct wyh_tally *tally);
+
+uint8_t wyh_append(size_t fluents, size_t actions, uint32_t start, const uint32_t *masks, size_t masks_len, struct wyh_tally *tally, size_t action);
+
+/* The quick yes by the two fields of a tally that it looks at. */
+uint8_t wyh_happened(size_t actions, const uint8_t last[WYH_TALLY_ACTIONS], uint8_t impossible, size_t action, uint8_t *yes);
 
 /* Reads a sheet. The numbers are: the line of the refusal, fluents, actions, start, steps of the log, where the ask rule begins and ends in the sheet, where the run rule does, more; on a refusal all
  * are 0 but the line. */
@@ -217,6 +247,18 @@ static inline uint8_t wyh_job_read_rule(const struct wyh_job *job, uint8_t kind,
 static inline uint8_t wyh_job_normal(const struct wyh_job *job, uint8_t kind, const uint8_t *text, size_t text_len, uint8_t *out, size_t room, size_t *count) {
     uint8_t nothing[1] = {0};
     return wyh_normal(wyh_bytes(text, text_len), text_len, kind, job->fluents, job->actions, room == 0 ? nothing : out, room, count);
+}
+
+static inline uint8_t wyh_job_tally(const struct wyh_job *job, struct wyh_tally *tally) {
+    return wyh_tally(job->fluents, job->actions, job->start, wyh_masks(job), job->masks_len, wyh_bytes(job->log, job->log_len), job->log_len, tally);
+}
+
+static inline uint8_t wyh_job_append(const struct wyh_job *job, struct wyh_tally *tally, size_t action) {
+    return wyh_append(job->fluents, job->actions, job->start, wyh_masks(job), job->masks_len, tally, action);
+}
+
+static inline uint8_t wyh_tally_happened(const struct wyh_job *job, const struct wyh_tally *tally, size_t action, uint8_t *yes) {
+    return wyh_happened(job->actions, tally->last, tally->impossible, action, yes);
 }
 
 static inline uint8_t wyh_job_read_sheet(const uint8_t *text, size_t text_len, uint32_t masks[WYH_MASKS_ROOM], uint8_t log[WYH_LOG_ROOM], struct wyh_sheet *sheet) {

@@ -90,6 +90,13 @@ def stack():
     return table(head, rows)
 
 
+def tally():
+    """What the verdict costs beside one append and one quick yes together."""
+    rows = [(name, *map(float, times)) for name, *times in lines("tally.tsv")]
+    head = ["Job", "Append, µs", "Quick yes, µs", "Made afresh, µs", "Verdict, µs", "Verdict / append and quick yes"]
+    return table(head, [[n, figures(a), figures(q), figures(f), figures(v), ratio(v, a + q)] for n, a, q, f, v in rows])
+
+
 def machine():
     return "\n".join(f"- {what}: {value}" for what, value in lines("machine.tsv"))
 
@@ -105,6 +112,7 @@ TABLES = {
     "search": sought,
     "factory": factory,
     "stack": stack,
+    "tally": tally,
     "machine": machine,
     "goals": lambda: table(["Goal", "Measured", "Where it is missed"], goals()),
 }

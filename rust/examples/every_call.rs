@@ -1,6 +1,6 @@
 //! Every call once with an answer and once with a refusal, over three actions: print 1, print 2 (needs label 1), void both. It prints what
 //! c/every_call.c prints.
-use wyndhopper::{Job, Kind, Refusal, Sheet, SheetRoom};
+use wyndhopper::{Job, Kind, Refusal, Sheet, SheetRoom, Tally};
 
 fn told<T>(call: &str, answer: &Result<T, Refusal>) {
     match answer {
@@ -65,6 +65,26 @@ fn normal(job: &Job, walk: &str, room: usize) {
     println!("  \"{}\"", String::from_utf8_lossy(&form[..answer.unwrap_or(0)]));
 }
 
+/// The tally of the log; one action appended; one that the theory lacks. Each time: counts and places of the three actions, the rest, and which have happened.
+fn show_tally(job: &Job, tally: &Tally) {
+    let three = |all: &[u8]| format!("{} {} {}", all[0], all[1], all[2]);
+    let happened: String = (0..3).map(|a| if tally.happened(job, a) == Ok(true) { " yes" } else { " no" }).collect();
+    print!("  counts {}, last {}, ", three(&tally.counts), three(&tally.last));
+    println!("impossible {}, {} steps, state {:08x}, happened:{happened}", tally.impossible, tally.steps, tally.state);
+}
+
+fn tallies(job: &Job) {
+    let mut tally = Tally::EMPTY;
+    told("tally", &tally.reset(job));
+    show_tally(job, &tally);
+    told("append 2", &tally.append(job, 2));
+    told("append 1", &tally.append(job, 1));
+    show_tally(job, &tally);
+    told("append 3", &tally.append(job, 3));
+    show_tally(job, &tally);
+    told("happened 3", &tally.happened(job, 3));
+}
+
 fn read_sheet(text: &str) {
     let mut room = SheetRoom::new();
     let answer = Sheet::read(text.as_bytes(), &mut room);
@@ -92,6 +112,7 @@ fn nothing(job: &Job) {
     told("no walk", &job.reach(b"", 0, 0));
     told("no test", &job.verdict(b"", 0, 0));
     told("no run", &job.next(b""));
+    told("no tally", &Tally::of(&Job::new(0, 0, &[])));
     told("no sheet", &Sheet::read(b"", &mut SheetRoom::new()).map(|s| s.more).map_err(|fault| fault.refusal));
     told("no output for no action", &job.finish(b"*n", 0, &mut []));
     told("no output for one action", &job.finish(b"*n", 1, &mut []));
@@ -127,6 +148,7 @@ fn main() {
     read_rule(&job, Kind::Run, "u");
     normal(&job, "-;a00*n", wyndhopper::RULE_ROOM);
     normal(&job, "-;a00*n", 5);
+    tallies(&job);
     nothing(&job);
     read_sheet(SHEET);
     read_sheet("sheet=0\n");

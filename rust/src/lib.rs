@@ -1,5 +1,5 @@
 //! Safe calls of the proved library: the state at a position, where a walk leads, the verdict of a test, what may come next, a rule's normal form, the first finishing
-//! sequence, and a whole sheet, read or answered.
+//! sequence, a running tally beside the log, and a whole sheet, read or answered.
 //!
 //! Every call takes every input; what cannot be answered is refused ([`Refusal`]; docs/REFUSALS.md says what to look for). Nothing is kept between calls.
 //! What a call may cost stands in the header, include/wyndhopper.h.
@@ -29,10 +29,12 @@ mod job;
 mod raw;
 mod refusal;
 mod sheet;
+mod tally;
 
 pub use job::{Job, Reached, FINISH_ROOM, NO_POSITION, RULE_ROOM, SET_WORDS};
 pub use refusal::Refusal;
 pub use sheet::{Fault, Sheet, SheetRoom, LOG_ROOM, MASKS_ROOM};
+pub use tally::{Tally, TALLY_ACTIONS};
 
 /// What a rule is used as: a test, a walk (questions only), or a walk to be carried out, as on a sheet's run line.
 #[derive(Clone, Copy, Debug, PartialEq, Eq)]

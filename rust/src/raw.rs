@@ -1,4 +1,5 @@
 //! The functions of include/wyndhopper.h. A test holds these lines, the header and the library's exports against one another (tests/declarations.rs).
+use super::Tally;
 
 extern "C" {
     pub fn wyh_state(
@@ -70,6 +71,29 @@ extern "C" {
         run_len: usize,
         next: *mut u64,
     ) -> u8;
+
+    pub fn wyh_tally(
+        fluents: usize,
+        actions: usize,
+        start: u32,
+        masks: *const u32,
+        masks_len: usize,
+        log: *const u8,
+        log_len: usize,
+        tally: *mut Tally,
+    ) -> u8;
+
+    pub fn wyh_append(
+        fluents: usize,
+        actions: usize,
+        start: u32,
+        masks: *const u32,
+        masks_len: usize,
+        tally: *mut Tally,
+        action: usize,
+    ) -> u8;
+
+    pub fn wyh_happened(actions: usize, last: *const u8, impossible: u8, action: usize, yes: *mut u8) -> u8;
 
     pub fn wyh_read_sheet(sheet: *const u8, sheet_len: usize, masks: *mut u32, log: *mut u8, numbers: *mut usize) -> u8;
 

@@ -34,6 +34,7 @@ fn rust_type(c: &str) -> &'static str {
         "uint32_t" => "u32",
         "uint64_t" => "u64",
         "size_t" => "usize",
+        "struct wyh_tally" => "Tally",
         other => panic!("a type that is not expected: {other}"),
     }
 }
@@ -126,6 +127,28 @@ fn between<'a>(text: &'a str, before: &str, after: &str) -> &'a str {
 }
 
 #[test]
+fn a_tally_has_the_same_fields_everywhere() {
+    let header = plain(&file("include/wyndhopper.h"));
+    let of_c = |field: &str| {
+        let (kind, name) = field.trim().rsplit_once(' ').unwrap();
+        let (name, array) = (name.split('[').next().unwrap(), name.contains('['));
+        (name.to_string(), rust_type(kind).to_string(), array)
+    };
+    let of_rust = |field: &str| {
+        let (name, kind) = field.trim().trim_start_matches("pub ").split_once(": ").unwrap();
+        (name.to_string(), kind.trim_start_matches('[').split(';').next().unwrap().to_string(), kind.starts_with('['))
+    };
+    let ours: Vec<_> = between(&header, "struct wyh_tally { ", "}").split(';').filter(|f| !f.trim().is_empty()).map(of_c).collect();
+    assert_eq!(ours.len(), 5);
+    for path in ["rust/src/tally.rs", "crates/tally/src/lib.rt"] {
+        let text = plain(&file(path));
+        let fields: Vec<_> = between(&text, "#[repr(C)] pub struct Tally { ", "}").split(',').filter(|f| !f.trim().is_empty()).map(of_rust).collect();
+        assert_eq!(fields, ours, "{path}");
+    }
+    assert_eq!((std::mem::size_of::<wyndhopper::Tally>(), std::mem::align_of::<wyndhopper::Tally>()), (136, 4));
+}
+
+#[test]
 fn refusals_have_the_same_names_numbers_and_sentences() {
     let header = file("include/wyndhopper.h");
     let named = header.lines().filter_map(|l| l.trim().strip_prefix("WYH_REFUSED_")?.trim_end_matches(',').split_once(" = "));
@@ -154,6 +177,7 @@ fn constants_and_version_are_the_same() {
     assert_eq!(number("WYH_FINISH_ROOM"), wyndhopper::FINISH_ROOM);
     assert_eq!(number("WYH_MASKS_ROOM"), wyndhopper::MASKS_ROOM);
     assert_eq!(number("WYH_LOG_ROOM"), wyndhopper::LOG_ROOM);
+    assert_eq!(number("WYH_TALLY_ACTIONS"), wyndhopper::TALLY_ACTIONS);
     assert_eq!(between(&file("rust/src/sheet.rs"), "SHEET_NUMBERS: usize = ", ";"), number("WYH_SHEET_NUMBERS").to_string());
     for (name, kind) in [("WYH_TEST", wyndhopper::Kind::Test), ("WYH_WALK", wyndhopper::Kind::Walk), ("WYH_RUN", wyndhopper::Kind::Run)] {
         assert_eq!(number(name), kind as usize);

@@ -1,4 +1,4 @@
-//! Measures the proved library: `measure compare`, `measure growth`, `measure work`, `measure search`, `measure stack`, `measure interpreter FOLDER`. Each prints lines of columns with tabs
+//! Measures the proved library: `measure compare`, `measure growth`, `measure work`, `measure search`, `measure stack`, `measure tally`, `measure interpreter FOLDER`. Each prints lines of columns with tabs
 //! between, for the scripts beside it.
 mod case;
 mod clock;
@@ -11,6 +11,7 @@ mod prolog;
 mod shapes;
 mod sought;
 mod stack;
+mod tally;
 mod texts;
 mod theories;
 mod work;
@@ -24,9 +25,10 @@ fn main() {
         ["work"] => work::run(),
         ["search"] => sought::run(),
         ["stack"] => stack::run(),
+        ["tally"] => tally::run(),
         ["interpreter", folder] => interpreter::run(folder.as_ref()),
         _ => {
-            eprintln!("measure compare | growth | work | search | stack | interpreter FOLDER");
+            eprintln!("measure compare | growth | work | search | stack | tally | interpreter FOLDER");
             std::process::exit(2);
         }
     }

@@ -88,7 +88,7 @@ pub fn bad_log(actions: usize, log: &[u8]) -> bool
 }
 
 // The counts and the table's length, then what the masks name.
-fn check_theory(s: Setting, masks: &[u32]) -> Check
+pub fn check_theory(s: Setting, masks: &[u32]) -> Check
     ensures { λ r. ⌜ Settled (theoryRows s (now (masks .entry))) r ⌝ }
 {
     let counts = s.counts;

@@ -38,7 +38,7 @@ pub fn able(masks: &[u32], a: usize, state: u32) -> bool
 }
 
 // The state after action a of the table, possible or not.
-pub(crate) fn act(masks: &[u32], a: usize, state: u32) -> u32
+pub fn act(masks: &[u32], a: usize, state: u32) -> u32
     requires { ⌜ stride * a + stride ≤ length (now masks) ⌝ }
     ensures { λ r. ⌜ r ≡ Theory.after (tableMasks (now (masks .entry)) a) state ⌝ }
 {

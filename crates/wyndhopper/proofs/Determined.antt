@@ -19,8 +19,12 @@ use Rattle.meaning.proofs.Finish.{first-unique}
 use Rattle.meaning.proofs.Refusal.{refused-unique, answered-determined, one-verdict}
 use Rattle.theory.specs.Subject.{Subject, worldOf}
 use Rattle.theory.specs.declared.Counts.{Counts}
+use Rattle.theory.specs.declared.Setting.{Setting}
 use Rattle.theory.specs.Answer.{StateAnswered}
 use Rattle.theory.specs.Possible.{PossibleAnswered}
+use Rattle.tally.specs.Calls.{Remade, Appended, HappenedAnswered}
+use Rattle.tally.specs.declared.Tally.{Tally}
+use Rattle.tally.proofs.Determined.{remade-determined, append-determined}
 use Rattle.normal.proofs.Outcomes.{normal-determined}
 use Rattle.finish.specs.Answer.{Finished, FinishAnswered}
 use Rattle.finish.specs.Next.{MayCome, NextAnswered}
@@ -64,6 +68,10 @@ module _ (s : Subject) where
       → (number ≡ number′) × (yes ≡ yes′)
   wyh-possible-determined action position x y =
       one-slot x y (λ a b. answered-determined a b (λ n p q. (n, p ∙ sym q)) (λ n p q. (n, one-verdict p q)))
+
+  pub wyh-tally-determined : (before : Tally) {number number′ : ℕ} {t u : Tally}
+      → Remade s before number t → Remade s before number′ u → (number ≡ number′) × (t ≡ u)
+  wyh-tally-determined before = remade-determined s before
 
   pub wyh-reach-determined : (walk : List ℕ) (then now : ℕ) {number number′ set set′ count count′ earliest earliest′ : ℕ}
       → ReachAnswered s walk then now number set count earliest
@@ -111,6 +119,16 @@ module _ (s : Subject) where
       let f = p .told in
       let g = subst (λ (z : Walk). MayCome (worldOf s) z b) (one-walk (q .spells) (p .spells)) (q .told) in
       (n, same-bits a b (λ i. same-truth (on a i) (on b i) (λ h. g i .1 (f i .0 h)) (λ h. f i .1 (g i .0 h)))))
+
+pub wyh-append-determined : (s : Setting) (masks : List ℕ) (before : Tally) (action : ℕ) {number number′ : ℕ} {t u : Tally}
+    → Appended s masks before action number t → Appended s masks before action number′ u → (number ≡ number′) × (t ≡ u)
+wyh-append-determined = append-determined
+
+pub wyh-happened-determined : (actions : ℕ) (last : List ℕ) (impossible action : ℕ) {number number′ yes yes′ : ℕ}
+    → InSlot (HappenedAnswered actions last impossible action number) yes → InSlot (HappenedAnswered actions last impossible action number′) yes′
+    → (number ≡ number′) × (yes ≡ yes′)
+wyh-happened-determined actions last impossible action x y =
+    one-slot x y (λ a b. answered-determined a b (λ n p q. (n, p ∙ sym q)) (λ n p q. (n, one-verdict p q)))
 
 module _ (bytes : List ℕ) (counts : Counts) where
   rest-determined : (k : Option Kind) {number number′ rest rest′ : ℕ} → RestBy k bytes counts number rest → RestBy k bytes counts number′ rest′

@@ -1,3 +1,4 @@
 pub mod Slots
 pub mod Numbered
 pub mod Determined
+pub mod Tally

@@ -1,7 +1,9 @@
 // The library for programs in other languages: each function is thin over a proved call and promises what that call promises. A slice is a pointer and a
 // length in C; a number beside the refusal is a lent slot, which is always written. Nothing is kept between calls.
+ghost use Rattle.theory.specs.Subject.{settingOf};
 ghost use Rattle.theory.specs.Answer.{StateAnswered};
 ghost use Rattle.theory.specs.Possible.{PossibleAnswered};
+ghost use Rattle.tally.specs.Calls.{Remade, Appended, HappenedAnswered};
 ghost use Rattle.ask.specs.Reach.{ReachAnswered};
 ghost use Rattle.ask.specs.Verdict.{VerdictAnswered};
 ghost use Rattle.finish.specs.Answer.{FinishAnswered};
@@ -19,6 +21,9 @@ use finish::NextAnswer;
 use sheet::LOG_ROOM;
 use sheet::MASKS_ROOM;
 use sheet::SheetAnswer;
+use tally::HappenedAnswer;
+use tally::Tally;
+use theory::ACTION_LIMIT;
 use theory::Counts;
 use theory::PossibleAnswer;
 use theory::Setting;
@@ -287,6 +292,63 @@ pub extern "C" fn wyh_read_sheet(
                 run.end,
                 p.more,
             ];
+            0
+        }
+    }
+}
+
+// The record of the log, made afresh in the lent one, which a refusal leaves as it was.
+#[no_mangle]
+pub extern "C" fn wyh_tally(
+    fluents: usize,
+    actions: usize,
+    start: u32,
+    masks: &[u32],
+    log: &[u8],
+    tally: &mut Tally,
+) -> u8
+    ensures { λ r. ⌜ Remade (asked fluents actions start (now (masks .entry)) (now (log .entry))) (now (tally .entry)) r (now (tally .exit)) ⌝ }
+{
+    tally::reset(fluents, actions, start, masks, log, tally)
+}
+
+// One action more in the lent record, which a refusal leaves as it was.
+#[no_mangle]
+pub extern "C" fn wyh_append(
+    fluents: usize,
+    actions: usize,
+    start: u32,
+    masks: &[u32],
+    tally: &mut Tally,
+    action: usize,
+) -> u8
+    ensures { λ r. ⌜ Appended (settingOf fluents actions start) (now (masks .entry)) (now (tally .entry)) action r (now (tally .exit)) ⌝ }
+{
+    tally::append(fluents, actions, start, masks, tally, action)
+}
+
+// Whether the action has happened, with only possible steps since, by two places of a record: 1 or 0 in the slot.
+#[no_mangle]
+pub extern "C" fn wyh_happened(
+    actions: usize,
+    last: &[u8; ACTION_LIMIT],
+    impossible: u8,
+    action: usize,
+    yes: &mut u8,
+) -> u8
+    ensures { λ r. ⌜ InSlot (HappenedAnswered actions (now (last .entry)) impossible action r) (now (yes .exit)) ⌝ }
+{
+    match tally::compared(actions, last, impossible, action) {
+        HappenedAnswer::Refused(why) => {
+            *yes = 0;
+            refusal::number(why)
+        }
+        HappenedAnswer::Yes => {
+            *yes = 1;
+            0
+        }
+        HappenedAnswer::No => {
+            *yes = 0;
             0
         }
     }

@@ -1,5 +1,6 @@
 //! The exported functions with every slot and every lent byte in sight. A slot is filled before the call; lent output stands between two fences, which no call may touch.
 use crate::make::Input;
+use wyndhopper::Tally;
 
 #[allow(dead_code)]
 #[path = "../../../rust/src/raw.rs"]
@@ -145,6 +146,41 @@ pub fn next(i: &Input, run: &[u8]) -> (u8, u64) {
         )
     };
     (refused, next)
+}
+
+/// A tally lent to a call, between two fences.
+#[derive(Clone, Debug, PartialEq)]
+#[repr(C)]
+pub struct TallyLent {
+    front: [u8; FENCE],
+    pub tally: Tally,
+    back: [u8; FENCE],
+}
+
+impl TallyLent {
+    pub fn new(tally: Tally) -> Self {
+        TallyLent { front: [FILLED; FENCE], tally, back: [!FILLED; FENCE] }
+    }
+}
+
+pub fn tally(i: &Input, before: Tally) -> (u8, TallyLent) {
+    let mut lent = TallyLent::new(before);
+    let refused = unsafe {
+        raw::wyh_tally(i.fluents, i.actions, i.start, i.masks.as_ptr(), i.masks.len(), i.log.as_ptr(), i.log.len(), &mut lent.tally)
+    };
+    (refused, lent)
+}
+
+pub fn append(i: &Input, before: Tally, action: usize) -> (u8, TallyLent) {
+    let mut lent = TallyLent::new(before);
+    let refused = unsafe { raw::wyh_append(i.fluents, i.actions, i.start, i.masks.as_ptr(), i.masks.len(), &mut lent.tally, action) };
+    (refused, lent)
+}
+
+pub fn happened(i: &Input, tally: &Tally, action: usize) -> (u8, u8) {
+    let mut yes = FILLED;
+    let refused = unsafe { raw::wyh_happened(i.actions, tally.last.as_ptr(), tally.impossible, action, &mut yes) };
+    (refused, yes)
 }
 
 /// What the reading of a sheet is lent, fences too.

@@ -2,6 +2,7 @@
 //! exported functions; and the safe Rust crate's answers. `compare [SEED [COUNT]]`. It ends with a line 'N inputs compared, 0 differ' or shows the first input that differs.
 mod calls;
 mod make;
+mod tallies;
 
 use calls::{Lent, SheetLent};
 use make::{Dice, Input};
@@ -21,7 +22,7 @@ impl Tally {
     }
 
     fn show(&self) {
-        for call in ["state", "reach", "verdict", "possible", "next", "finish", "finish with actions", "read_rule", "normal", "read_sheet", "answer"] {
+        for call in ["state", "reach", "verdict", "possible", "next", "tally", "append", "happened", "finish", "finish with actions", "read_rule", "normal", "read_sheet", "answer"] {
             let of = self.0.iter().filter(|((c, _), _)| *c == call);
             let counts: Vec<String> = of.map(|((_, n), k)| if *n == 0 { format!("answered {k}") } else { format!("refused {n}: {k}") }).collect();
             println!("{call}: {}", counts.join(", "));
@@ -211,6 +212,7 @@ fn main() {
         let i = make::input(&mut d);
         questions(&mut d, &i, &mut tally);
         onward(&mut d, &i, &mut tally);
+        tallies::tallies(&mut d, &i, &mut tally);
         texts(&mut d, &i, &mut tally);
         finishes(&mut d, &i, &mut tally);
         sheets(&mut d, &mut tally);

@@ -7,6 +7,7 @@ pub mod next;
 pub mod normal;
 pub mod rule;
 pub mod sheet;
+pub mod tally;
 pub mod theory;
 
 /// A refusal of a library call, by its number in the table.
