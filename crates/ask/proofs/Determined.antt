@@ -92,7 +92,7 @@ module _ {s : Subject} {job ends : List ℕ} (here : JobHere (s .masks) (s .log)
       let j = g .each (x .walk) (x .stands) in
       same-truth a b (λ k. j .1 (i .0 k)) (λ k. i .1 (j .0 k))
 
-  pub asked-determined : (a b : ℕ) → a < 2 ^ actionLimit → b < 2 ^ actionLimit → AskTold s job a → AskTold s job b → a ≡ b
+  pub asked-determined : {may : ℕ → Bool} (a b : ℕ) → a < 2 ^ actionLimit → b < 2 ^ actionLimit → AskTold may s job a → AskTold may s job b → a ≡ b
   asked-determined a b short short′ f g = same-bits a b (λ i. elim (decLt i actionLimit) [
     | yes low ↦
         let x = here .stands in

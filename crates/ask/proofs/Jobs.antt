@@ -11,7 +11,7 @@ use lib.ListN.{length}
 use Rattle.laws.proofs.Truth.{and-iff}
 use Rattle.meaning.specs.Limits.{places}
 use Rattle.meaning.specs.Leads.{Leads}
-use Rattle.meaning.specs.Asks.{Asks}
+use Rattle.meaning.specs.Asks.{AsksAt}
 use Rattle.theory.specs.Subject.{Subject, worldOf}
 use Rattle.theory.specs.Tables.{Describes}
 use Rattle.ask.specs.Image.{Set, UpTo}
@@ -45,12 +45,12 @@ module _ {s : Subject} {job ends rows : List ℕ} (here : JobHere (s .masks) (s 
   }
 
   -- what it asks for from 0
-  pub asked-right : {asked : ℕ} → AskFound job 0 rows (length (s .log)) from asked → AskTold s job asked
-  asked-right f = record {
+  pub asked-right : {may : ℕ → Bool} {asked : ℕ} → AskFound may job 0 rows (length (s .log)) from asked → AskTold may s job asked
+  asked-right {may} f = record {
     each = λ x there a h.
         let by = f .found (worldOf s) tabled early x there a h in (
           λ e. let u = by .0 e in
-              subst (λ (p : ℕ). Asks (worldOf s) x p end a) (sym (only (u .0) (u .1))) (u .2),
+              subst (λ (p : ℕ). AsksAt may (worldOf s) 0 x p end a) (sym (only (u .0) (u .1))) (u .2),
           λ k. by .1 (0, front 0, k),
         );
   }

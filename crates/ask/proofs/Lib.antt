@@ -11,6 +11,7 @@ pub mod Loops
 pub mod Asking
 pub mod Answering
 pub mod Asked
+pub mod Heard
 pub mod Signs
 pub mod Runs
 pub mod Jobs

@@ -54,6 +54,19 @@ module _ {bytes : List ℕ} {at : ℕ} {back : Bool} {rows : List ℕ} {n : ℕ}
         outside = outside-none;
       }
 
+  pub round-begun : {w : World} {x : Walk} {g : Ground} {first seen new : Set} {slots : List ℕ} → Begun w bytes rows n at (star x) back g before first
+      → Round w bytes n at x back g before slots first seen new → Begun w bytes rows n (at + 1) x back (led g (star x) back) slots new
+  round-begun {w} {x} {g} {new = new} b u =
+      let ground : (q : ℕ) → new q ≡ true → Lies w n (led g (star x) back) q = λ q h. u .sound q (inr h) in
+      record {
+        tabled = b .tabled;
+        low = λ q h. lies-low w n g (star x) back q (ground q h);
+        stands = star-parts (b .stands) .1;
+        ground = ground;
+        told = u .told;
+        seen = u .below;
+      }
+
   -- a round: what was new is walked from, and what that adds is new
   pub rounds-more : {first : Set} {slots after : List ℕ} {seen new all more left : Set} → Rounds bytes at back rows n before slots first seen new
       → ((q : ℕ) → all q ≡ (seen q || new q)) → WalkKept bytes (at + 1) back rows n slots after new more → ((q : ℕ) → left q ≡ (more q && not (all q)))
@@ -72,16 +85,7 @@ module _ {bytes : List ℕ} {at : ℕ} {back : Bool} {rows : List ℕ} {n : ℕ}
       go : (w : World) (x : Walk) (g : Ground) → Begun w bytes rows n at (star x) back g before first → Round w bytes n at x back g before after first all left
       go w x g b =
           let u = r .found w x g b in
-          let ground : (q : ℕ) → new q ≡ true → Lies w n (led g (star x) back) q = λ q h. u .sound q (inr h) in
-          let begun : Begun w bytes rows n (at + 1) x back (led g (star x) back) slots new = record {
-            tabled = b .tabled;
-            low = λ q h. lies-low w n g (star x) back q (ground q h);
-            stands = star-parts (b .stands) .1;
-            ground = ground;
-            told = u .told;
-            seen = u .below;
-          } in
-          let t = f .found w x (led g (star x) back) begun in
+          let t = f .found w x (led g (star x) back) (round-begun b u) in
           record {
             own = λ q h. inl (joined q (u .own q h));
             sound = λ q. ⊎-elim

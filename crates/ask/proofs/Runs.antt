@@ -12,6 +12,7 @@ use Rattle.ask.specs.Found.{Tabled, WalkFound, TestFound}
 use Rattle.ask.specs.Asked.{AskFound}
 use Rattle.ask.specs.Run.{start, Begun, WalkKept, TestKept, AskKept}
 use Rattle.ask.proofs.Seen.{seen-none, told-none}
+use Rattle.ask.proofs.Heard.{asked-exact}
 
 module _ {bytes : List ℕ} {at : ℕ} {rows : List ℕ} {n : ℕ} {slots : List ℕ} {from : Set} (empty : (j : ℕ) → getD slots j 0 ≡ 0) where
   begun : (w : World) (back : Bool) → Tabled w rows n → UpTo n from → (x : Walk) → Stands bytes at (ofWalk x) → Begun w bytes rows n at x back (start from) slots from
@@ -34,9 +35,5 @@ module _ {bytes : List ℕ} {at : ℕ} {rows : List ℕ} {n : ℕ} {slots : List
   pub test-exact : {after : List ℕ} {answer : Set} → TestKept bytes at rows n slots after from answer → TestFound bytes at rows n from answer
   test-exact k = record { found = λ w tabled low x h. k .found w tabled low x h (told-none empty) .sifted }
 
-  pub ask-exact : {after : List ℕ} {word : ℕ} → AskKept bytes at rows n slots after from word → AskFound bytes at rows n from word
-  ask-exact k = record {
-    found = λ w tabled low x h a room.
-        let u = k .found w x (start from) (begun w false tabled low x h) .asked in
-        (u .most a room, λ i. u .least (i .0) a room (i .1) (i .2));
-  }
+  pub ask-exact : {may : ℕ → Bool} {after : List ℕ} {reached : Set} {word : ℕ} → AskKept may bytes at rows n slots after from reached word → AskFound may bytes at rows n from word
+  ask-exact k = record { found = λ w tabled low x h. asked-exact k w x (begun w false tabled low x h) (λ j low high sign. empty j) }

@@ -10,7 +10,7 @@ use Rattle.meaning.specs.Limits.{actionLimit}
 use Rattle.meaning.specs.Theory.{World}
 use Rattle.meaning.specs.Rule.{Walk, ofWalk}
 use Rattle.meaning.specs.Leads.{Leads}
-use Rattle.meaning.specs.Asks.{Asks}
+use Rattle.meaning.specs.Asks.{AsksAt}
 use Rattle.theory.specs.Subject.{Subject, Readable, worldOf}
 use Rattle.rule.specs.Standing.{Stands}
 use Rattle.ask.specs.Image.{Set, UpTo}
@@ -25,14 +25,14 @@ pub record JobHere (masks log job ends : List ℕ) : Type 0 where
 pub record EndTold (s : Subject) (job : List ℕ) (answer : Bool) : Type 0 where
   pub each : (x : Walk) → Stands job 0 (ofWalk x) → (answer ≡ true) ↔ Leads (worldOf s) x 0 (length (s .log)) (length (s .log))
 
--- the actions that the job asks for at the log's end, bit a for action a
-pub record AskTold (s : Subject) (job : List ℕ) (asked : ℕ) : Type 0 where
-  pub each : (x : Walk) → Stands job 0 (ofWalk x) → (a : ℕ) → a < actionLimit → (on asked a ≡ true) ↔ Asks (worldOf s) x 0 (length (s .log)) a
+-- the actions that the job asks for at the log's end by the signs that may, bit a for action a
+pub record AskTold (may : ℕ → Bool) (s : Subject) (job : List ℕ) (asked : ℕ) : Type 0 where
+  pub each : (x : Walk) → Stands job 0 (ofWalk x) → (a : ℕ) → a < actionLimit → (on asked a ≡ true) ↔ AsksAt may (worldOf s) 0 x 0 (length (s .log)) a
 
--- the actions that a walk asks for at now = n, from some position of a set
-abbrev pub AskedBy : World → Walk → ℕ → Set → ℕ → Type 0
-AskedBy w x n from asked = (a : ℕ) → a < actionLimit → (on asked a ≡ true) ↔ ((p : ℕ) × (from p ≡ true) × Asks w x p n a)
+-- the actions that a walk, whose text begins at a place, asks for at now = n, from some position of a set
+abbrev pub AskedBy : (ℕ → Bool) → World → ℕ → Walk → ℕ → Set → ℕ → Type 0
+AskedBy may w at x n from asked = (a : ℕ) → a < actionLimit → (on asked a ≡ true) ↔ ((p : ℕ) × (from p ≡ true) × AsksAt may w at x p n a)
 
 -- the same of the walk at a place of the text
-pub record AskFound (text : List ℕ) (at : ℕ) (rows : List ℕ) (now : ℕ) (from : Set) (asked : ℕ) : Type 0 where
-  pub found : (w : World) → Tabled w rows now → UpTo now from → (x : Walk) → Stands text at (ofWalk x) → AskedBy w x now from asked
+pub record AskFound (may : ℕ → Bool) (text : List ℕ) (at : ℕ) (rows : List ℕ) (now : ℕ) (from : Set) (asked : ℕ) : Type 0 where
+  pub found : (w : World) → Tabled w rows now → UpTo now from → (x : Walk) → Stands text at (ofWalk x) → AskedBy may w at x now from asked

@@ -2,7 +2,7 @@
 -- inside a walk is not asked twice at the same position."
 use mathlib.Core.Path.{_≡_}
 use mathlib.Core.Logic.{_↔_}
-use mathlib.Core.Bool.{Bool, true, false, not}
+use mathlib.Core.Bool.{Bool, true, false, not, _||_}
 use mathlib.Core.List.{List}
 use Prim.Native.Nat.{ℕ, _+_, _<_}
 use lib.ListN.{length, getD}
@@ -11,7 +11,7 @@ use Rattle.meaning.specs.Limits.{actionLimit}
 use Rattle.meaning.specs.Theory.{World}
 use Rattle.meaning.specs.Rule.{Walk, Test, act, undo, next, prev, seq, alt, star, check, conv, ofWalk, ofTest, walkText, testText}
 use Rattle.meaning.specs.Leads.{Holds}
-use Rattle.meaning.specs.Asks.{Asks}
+use Rattle.meaning.specs.Asks.{AsksAt}
 use Rattle.rule.specs.Standing.{Stands}
 use Rattle.ask.specs.Image.{Set, UpTo, Sifted, Way}
 use Rattle.ask.specs.Slots.{slot, Outside}
@@ -85,16 +85,27 @@ pub record TestKept (bytes : List ℕ) (at : ℕ) (rows : List ℕ) (n : ℕ) (b
 pub record HereKept (bytes : List ℕ) (at : ℕ) (rows : List ℕ) (n : ℕ) (before after : List ℕ) (among answer : Set) : Type 0 where
   pub found : (back : Bool) → WalkKept bytes at back rows n before after among answer
 
--- The actions that a walk asks for at now: those from the set, and none but from its ground.
-pub record AskedOn (w : World) (x : Walk) (n : ℕ) (g : Ground) (from : Set) (word : ℕ) : Type 0 where
-  pub least : (p a : ℕ) → a < actionLimit → from p ≡ true → Asks w x p n a → on word a ≡ true
-  pub most : (a : ℕ) → a < actionLimit → on word a ≡ true → (p : ℕ) × Lies w n g p × Asks w x p n a
+-- What the stars of a walk have told in a run: the actions that the walk of each asks for from where the star has been are among these.
+unfoldable pub Heard : (ℕ → Bool) → World → ℕ → List ℕ → ℕ → Walk → Set → Type 0
+Heard may w n slots at (act a) these = Unit {0}
+Heard may w n slots at (undo a) these = Unit {0}
+Heard may w n slots at next these = Unit {0}
+Heard may w n slots at prev these = Unit {0}
+Heard may w n slots at (seq v x) these = Heard may w n slots (at + 1) v these × Heard may w n slots (at + 1 + length (walkText v)) x these
+Heard may w n slots at (alt v x) these = Heard may w n slots (at + 1) v these × Heard may w n slots (at + 1 + length (walkText v)) x these
+Heard may w n slots at (star x) these =
+    ((p a : ℕ) → a < actionLimit → slot slots at p ≡ true → AsksAt may w (at + 1) x p n a → these a ≡ true) × Heard may w n slots (at + 1) x these
+Heard may w n slots at (check t) these = Unit {0}
+Heard may w n slots at (conv x) these = Unit {0}
 
-pub record Asking (w : World) (bytes : List ℕ) (n at : ℕ) (x : Walk) (g : Ground) (before after : List ℕ) (from : Set) (word : ℕ) : Type 0 where
-  pub asked : AskedOn w x n g from word
-  pub told : Told w bytes after
-  pub seen : Seen w n after at x false g
-  pub outside : Outside at (at + length (walkText x)) before after
+-- The actions that a walk asks for at now by the signs that may ask: from the set all that were not told before in this run, and none but from its ground.
+pub record Asking (may : ℕ → Bool) (w : World) (n at : ℕ) (x : Walk) (g : Ground) (these : Set) (after : List ℕ) (from : Set) (word : ℕ) : Type 0 where
+  pub least : (p a : ℕ) → a < actionLimit → from p ≡ true → AsksAt may w at x p n a → (these a || on word a) ≡ true
+  pub most : (a : ℕ) → a < actionLimit → on word a ≡ true → (p : ℕ) × Lies w n g p × AsksAt may w at x p n a
+  pub heard : Heard may w n after at x (λ a. these a || on word a)
 
-pub record AskKept (bytes : List ℕ) (at : ℕ) (rows : List ℕ) (n : ℕ) (before after : List ℕ) (from : Set) (word : ℕ) : Type 0 where
-  pub found : (w : World) (x : Walk) (g : Ground) → Begun w bytes rows n at x false g before from → Asking w bytes n at x g before after from word
+-- one pass over a walk: where it leads, and what it asks for
+pub record AskKept (may : ℕ → Bool) (bytes : List ℕ) (at : ℕ) (rows : List ℕ) (n : ℕ) (before after : List ℕ) (from reached : Set) (word : ℕ) : Type 0 where
+  pub walked : WalkKept bytes at false rows n before after from reached
+  pub asked : (w : World) (x : Walk) (g : Ground) → Begun w bytes rows n at x false g before from → (these : Set) → Heard may w n before at x these
+      → Asking may w n at x g these after from word

@@ -1,19 +1,31 @@
-// The actions that a job asks for next: what each sign waits for at the log's end, by the evaluator's own way over the text.
+// One pass over a job: where it leads, and the actions that its signs wait for at the log's end, by the evaluator's own way over the text. A table says of each step sign
+// how many steps may be left behind it: with any other number left it does not ask.
 ghost use mathlib.Core.Path.{_≡_};
-ghost use mathlib.Core.Bool.{cond};
+ghost use mathlib.Core.Bool.{cond, _&&_};
 ghost use Prim.Native.Nat.{ℕ, _<_};
 ghost use lib.Dec.{eqb};
+ghost use lib.ListN.{getD};
 ghost use Rattle.laws.specs.Bit.{on};
 ghost use Rattle.meaning.specs.Limits.{actionLimit};
+ghost use Rattle.meaning.specs.Lengths.{allows};
 ghost use Rattle.positions.specs.Positions.{holds};
 ghost use Rattle.ask.specs.Found.{WalkHere};
 ghost use Rattle.ask.specs.Run.{AskKept};
 use crate::evaluator;
+use crate::evaluator::last_star;
+use crate::slots::keep;
+use crate::slots::kept;
 use crate::step;
 use positions::PositionSet;
 use rule::ends::ENDS_ROOM;
 use theory::ACTION_LIMIT;
 use theory::tables::ROWS;
+
+// What a pass over a walk finds: the positions that it leads to, and the actions that it asks for, bit a for action a.
+pub struct Pass {
+    pub reached: PositionSet,
+    pub asked: u64,
+}
 
 // Action a alone; none, where it is past the last.
 fn one(a: usize) -> u64
@@ -22,25 +34,48 @@ fn one(a: usize) -> u64
     if a < ACTION_LIMIT { 1 << a } else { 0 }
 }
 
-// A step that waits for some of these actions does so if the set holds the end.
-fn waits(from: PositionSet, end: usize, these: u64) -> u64
-    ensures { λ r. ⌜ r ≡ cond (holds from end) these 0 ⌝ }
+// The sign at a place may ask where so many steps are left behind it: it is one of its lengths, bit l for l steps.
+fn allowed(follow: &[u8], at: usize, left: usize) -> bool
+    ensures { λ r. ⌜ r ≡ allows (now (follow .entry)) left at ⌝ }
 {
-    if from.has(end) { these } else { 0 }
+    if at < follow.len() {
+        let lengths = step::wide(follow[at]);
+        if left < 8 {
+            let from_left = lengths >> left;
+            from_left % 2 == 1
+        } else {
+            false
+        }
+    } else {
+        false
+    }
 }
 
-// The actions that the walk at a place asks for at the end, from some position of a set, and perhaps of those that it was given before in this run.
-pub(crate) fn asks(
+// A step that waits for some of these actions does so if it may ask and the set holds the end.
+fn waits(from: PositionSet, end: usize, may: bool, these: u64) -> u64
+    ensures { λ r. ⌜ r ≡ cond (may && holds from end) these 0 ⌝ }
+{
+    if may {
+        if from.has(end) { these } else { 0 }
+    } else {
+        0
+    }
+}
+
+// One pass over the walk at a place from the positions of a set, and perhaps from those that it was given before in this run, with so many steps left behind what it asks for.
+pub(crate) fn onward(
     text: &[u8],
     ends: &[u8; ENDS_ROOM],
     at: usize,
     from: PositionSet,
     end: usize,
     rows: &[u64; ROWS],
+    follow: &[u8; ENDS_ROOM],
+    left: usize,
     slots: &mut [u64],
-) -> u64
+) -> Pass
     requires { ⌜ WalkHere (now text) (now ends) at ⌝ }
-    ensures { λ r. ⌜ AskKept (now (text .entry)) at (now (rows .entry)) end (now (slots .entry)) (now (slots .exit)) (holds from) r ⌝ }
+    ensures { λ r. ⌜ AskKept (allows (now (follow .entry)) left) (now (text .entry)) at (now (rows .entry)) end (now (slots .entry)) (now (slots .exit)) (holds from) (holds (r .reached)) (r .asked) ⌝ }
 {
     let sign = text[at];
     let part = at + 1;
@@ -48,26 +83,92 @@ pub(crate) fn asks(
         b'a' => {
             let a = step::named(text, part);
             let these = one(a);
-            waits(from, end, these)
+            let may = allowed(follow, at, left);
+            let asked = waits(from, end, may, these);
+            let reached = step::leaf(text, at, from, end, false, rows);
+            Pass {
+                reached: reached,
+                asked: asked,
+            }
         }
-        b'n' => waits(from, end, !0),
+        b'n' => {
+            let may = allowed(follow, at, left);
+            let asked = waits(from, end, may, !0);
+            let reached = step::leaf(text, at, from, end, false, rows);
+            Pass {
+                reached: reached,
+                asked: asked,
+            }
+        }
         b';' => {
             let other = evaluator::second(ends, at);
-            let middle = evaluator::walk(text, ends, part, from, end, false, rows, slots);
-            let first = asks(text, ends, part, from, end, rows, slots);
-            let then = asks(text, ends, other, middle, end, rows, slots);
-            first | then
+            let first = onward(text, ends, part, from, end, rows, follow, left, slots);
+            let middle = first.reached;
+            let then = onward(text, ends, other, middle, end, rows, follow, left, slots);
+            let reached = then.reached;
+            let asked = first.asked | then.asked;
+            Pass {
+                reached: reached,
+                asked: asked,
+            }
         }
         b'|' => {
             let other = evaluator::second(ends, at);
-            let first = asks(text, ends, part, from, end, rows, slots);
-            let or = asks(text, ends, other, from, end, rows, slots);
-            first | or
+            let first = onward(text, ends, part, from, end, rows, follow, left, slots);
+            let or = onward(text, ends, other, from, end, rows, follow, left, slots);
+            let there = first.reached;
+            let here = or.reached;
+            let reached = there.join(here);
+            let asked = first.asked | or.asked;
+            Pass {
+                reached: reached,
+                asked: asked,
+            }
         }
         b'*' => {
-            let held = evaluator::walk(text, ends, at, from, end, false, rows, slots);
-            asks(text, ends, part, held, end, rows, slots)
+            let last = last_star(text, at);
+            rounds(text, ends, last, from, end, rows, follow, left, slots)
         }
-        _ => 0,
+        // a test waits for nothing, and no other sign stands in a job
+        _ => {
+            let reached = evaluator::walk(text, ends, at, from, end, false, rows, slots);
+            Pass {
+                reached: reached,
+                asked: 0,
+            }
+        }
+    }
+}
+
+// The same of the star at a place: on from the ground that it has not seen in this run.
+fn rounds(
+    text: &[u8],
+    ends: &[u8; ENDS_ROOM],
+    at: usize,
+    from: PositionSet,
+    end: usize,
+    rows: &[u64; ROWS],
+    follow: &[u8; ENDS_ROOM],
+    left: usize,
+    slots: &mut [u64],
+) -> Pass
+    requires { ⌜ WalkHere (now text) (now ends) at × (getD (now text) at 0 ≡ 42) ⌝ }
+    ensures { λ r. ⌜ AskKept (allows (now (follow .entry)) left) (now (text .entry)) at (now (rows .entry)) end (now (slots .entry)) (now (slots .exit)) (holds from) (holds (r .reached)) (r .asked) ⌝ }
+{
+    let part = at + 1;
+    let mut asked = 0;
+    let mut seen = kept(slots, at);
+    let mut new = from.without(seen);
+    while !new.is_empty() {
+        seen = seen.join(new);
+        let round = onward(text, ends, part, new, end, rows, follow, left, slots);
+        asked = asked | round.asked;
+        let more = round.reached;
+        new = more.without(seen);
+    }
+    keep(slots, at, seen);
+    Pass {
+        reached: seen,
+        asked: asked,
     }
 }

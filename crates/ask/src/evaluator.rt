@@ -37,7 +37,7 @@ fn turned(back: bool, part: usize, other: usize) -> usize
 }
 
 // The last star of a run of them: a star of a star is one star.
-fn last_star(text: &[u8], at: usize) -> usize
+pub(crate) fn last_star(text: &[u8], at: usize) -> usize
     requires { ⌜ at < length (now text) ⌝ }
     ensures { λ r. ⌜ StarsTo (now (text .entry)) at r ⌝ }
 {

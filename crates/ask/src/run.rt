@@ -1,6 +1,7 @@
 // A rule from the text's first place on: one run, or for a test its runs. A rule that keeps something in a run is lent a slot for each place; any other gets
 // none, and pays for none.
 ghost use mathlib.Core.Bool.{false};
+ghost use Rattle.meaning.specs.Lengths.{allows};
 ghost use Rattle.positions.specs.Positions.{holds};
 ghost use Rattle.ask.specs.Found.{WalkHere, TestHere, WalkFound, TestFound};
 ghost use Rattle.ask.specs.Asked.{AskFound};
@@ -135,22 +136,25 @@ fn test_keeping(
     evaluator::test(text, ends, 0, among, now, rows, &mut slots)
 }
 
-// The actions that the walk asks for at the end, from some position of a set.
+// The actions that the walk asks for at the end, from some position of a set, by the step signs that may have so many steps behind them.
 pub(crate) fn asks(
     text: &[u8],
     ends: &[u8; ENDS_ROOM],
     from: PositionSet,
     end: usize,
     rows: &[u64; ROWS],
+    follow: &[u8; ENDS_ROOM],
+    left: usize,
 ) -> u64
     requires { ⌜ WalkHere (text .now) (ends .now) 0 ⌝ }
-    ensures { λ r. ⌜ AskFound (text .entry .now) 0 (rows .entry .now) end (holds from) r ⌝ }
+    ensures { λ r. ⌜ AskFound (allows (follow .entry .now) left) (text .entry .now) 0 (rows .entry .now) end (holds from) r ⌝ }
 {
     if keeps(text, ends) {
-        return asks_keeping(text, ends, from, end, rows);
+        return asks_keeping(text, ends, from, end, rows, follow, left);
     }
     let mut none = [0u64; 0];
-    asks::asks(text, ends, 0, from, end, rows, &mut none)
+    let pass = asks::onward(text, ends, 0, from, end, rows, follow, left, &mut none);
+    pass.asked
 }
 
 fn asks_keeping(
@@ -159,10 +163,13 @@ fn asks_keeping(
     from: PositionSet,
     end: usize,
     rows: &[u64; ROWS],
+    follow: &[u8; ENDS_ROOM],
+    left: usize,
 ) -> u64
     requires { ⌜ WalkHere (text .now) (ends .now) 0 ⌝ }
-    ensures { λ r. ⌜ AskFound (text .entry .now) 0 (rows .entry .now) end (holds from) r ⌝ }
+    ensures { λ r. ⌜ AskFound (allows (follow .entry .now) left) (text .entry .now) 0 (rows .entry .now) end (holds from) r ⌝ }
 {
     let mut slots = [0u64; ENDS_ROOM];
-    asks::asks(text, ends, 0, from, end, rows, &mut slots)
+    let pass = asks::onward(text, ends, 0, from, end, rows, follow, left, &mut slots);
+    pass.asked
 }

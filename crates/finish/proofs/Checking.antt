@@ -7,7 +7,7 @@ use Prim.Native.Nat.{ℕ, _≤_, _<_}
 use native.Mathlib.Omega.{arith}
 use lib.ListN.{length}
 use Rattle.laws.proofs.Truth.{no-truth}
-use Rattle.meaning.specs.Limits.{textLimit}
+use Rattle.meaning.specs.Limits.{textLimit, moreLimit}
 use Rattle.meaning.specs.Rule.{Walk, Rule, ofTest, ofWalk, jobKind, Opens, backward, backwardIn}
 use Rattle.meaning.specs.Finish.{First, None}
 use Rattle.meaning.specs.Refusal.{Row, Accepted, BadMore, TooShort}
@@ -115,11 +115,13 @@ module _ (s : Subject) (job : List ℕ) (more room : ℕ) where
     wanted =
         let parts = accepted-parts (nextRows s job) (roomRows more room) (not-rest passed) in
         let long : ¬ (room < more) = not-first (parts .1) in
+        let small : ¬ (moreLimit < more) = not-first passed in
         record {
           logged = logged-passed s job (parts .0);
           short = job-there .short;
           walk = job-there .walk;
           spelled = job-is job-there;
+          few = omega arith;
           enough = omega arith;
         }
 

@@ -2,8 +2,15 @@ pub mod Lengths
 pub mod LeftOut
 pub mod Doable
 pub mod Sound
+pub mod Names
+pub mod Stood
 pub mod Trail
 pub mod Shorter
 pub mod Determined
 pub mod Seeking
 pub mod Checking
+pub mod May
+pub mod Gained
+pub mod Rounds
+pub mod Turns
+pub mod Filled

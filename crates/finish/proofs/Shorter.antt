@@ -7,13 +7,14 @@ use native.Mathlib.Decide.{ℕ-discrete}
 use native.Mathlib.Omega.{arith}
 use lib.ListN.{length, take, drop}
 use lib.Seq.{length-take-le}
-use Rattle.meaning.specs.Limits.{logLimit}
+use Rattle.meaning.specs.Limits.{logLimit, moreLimit}
 use Rattle.meaning.specs.Theory.{World}
 use Rattle.meaning.specs.Rule.{Walk}
 use Rattle.theory.specs.Subject.{subjectOf, worldOf}
 use Rattle.theory.specs.declared.Setting.{Setting}
 use Rattle.finish.specs.Search.{FirstOf, NoneOf}
 use Rattle.finish.specs.Sound.{JobIs, Node, Ready}
+use Rattle.finish.specs.Lengths.{FollowTold, Guided}
 use Rattle.finish.specs.Found.{LengthTold, FinishTold}
 use Rattle.finish.specs.declared.search.Found.the-variants.{At, Nothing}
 use Rattle.finish.proofs.Lengths.{first-of-all, none-of-all}
@@ -25,6 +26,9 @@ module _ (s : Setting) (masks job : List ℕ) where
   -- no sequence of fewer than k actions completes the job
   abbrev pub Fewer : List ℕ → ℕ → Type 0
   Fewer log k = (x : Walk) → JobIs job x → (j : ℕ) → j < k → NoneOf j (Of log) x
+
+  pub fewer-none : (trail : List ℕ) (n : ℕ) → LengthTold s masks job trail n 0 trail false → Fewer (take n trail) 1
+  fewer-none trail n told x i j h = let e : j ≡ 0 = omega arith in subst (λ (m : ℕ). NoneOf m (Of (take n trail)) x) (sym e) (told .each x i)
 
   pub fewer-more : (trail now last : List ℕ) (n k : ℕ) → take n now ≡ take n trail → LengthTold s masks job now n k last false
       → Fewer (take n trail) k → Fewer (take n trail) (k + 1)
@@ -57,6 +61,11 @@ module _ (s : Setting) (masks job : List ℕ) where
       }
 
 -- what the search asks, at another length
+pub guided-again : (s : Setting) (masks job trail now follow : List ℕ) (n k : ℕ) → k ≤ moreLimit → take n now ≡ take n trail
+    → FollowTold (subjectOf s masks (take n trail)) job follow → Guided (subjectOf s masks (take n now)) job follow k
+guided-again s masks job trail now follow n k few same told =
+    record { few = few; told = subst (λ (l : List ℕ). FollowTold (subjectOf s masks l) job follow) (sym same) told }
+
 pub ready-again : (actions : ℕ) (masks job ends trail now : List ℕ) (n k : ℕ) → Ready actions masks job ends trail n 0 → length now ≡ length trail
     → take n now ≡ take n trail → n + k ≤ logLimit → Ready actions masks job ends now n k
 ready-again actions masks job ends trail now n k r long same fits =

@@ -1,27 +1,33 @@
 -- The search on its trail, an arm of the code at a time: the log and what is tried stand in the trail's first n places, and what is found behind them.
 -- All the mathematics of the search's recursion; knows no code.
 use mathlib.Core.Path.{_≡_, refl, sym, ap, subst, _∙_}
-use mathlib.Core.Logic.{_↔_}
-use mathlib.Core.Bool.{Bool, true, false, false≢true}
+use mathlib.Core.Logic.{_⊎_, inl, inr, _↔_}
+use mathlib.Core.Bool.{Bool, true, false, _&&_, false≢true}
 use mathlib.Core.List.{List, [], _∷_, _++_}
 use Prim.Native.Nat.{ℕ, suc, _+_, _/_, _%_, _^_, _<_}
 use native.Mathlib.Decide.{ℕ-discrete}
 use native.Mathlib.Numerals.{add-one}
 use native.Mathlib.Omega.{arith}
+use lib.Bits.{bitAnd}
 use lib.ListN.{length, getD, take, drop, set, length-set}
 use lib.Seq.{drop-cons, getD-set-same, getD-take, length-take-le, take-suc-set, take-set-le, take-take}
 use borrow.Author.Tests.{eq-eqb, ne-eqb}
 use Rattle.laws.specs.Bit.{on}
+use Rattle.laws.proofs.Truth.{and-iff}
+use Rattle.laws.proofs.Bitwise.{on-and}
 use Rattle.meaning.specs.Theory.{World}
 use Rattle.meaning.specs.Rule.{Walk}
+use Rattle.meaning.specs.Lengths.{allows}
 use Rattle.theory.specs.Subject.{subjectOf, worldOf}
 use Rattle.theory.specs.declared.Setting.{Setting}
-use Rattle.finish.specs.Search.{Ended, FirstOf, NoneOf}
+use Rattle.finish.specs.Search.{Ended, FirstOf, NoneOf, Allows, Tries}
 use Rattle.finish.specs.Sound.{JobIs, Logged, Ready}
 use Rattle.ask.specs.Asked.{EndTold}
-use Rattle.finish.specs.Found.{NextTold, OneLength, LengthTold}
+use Rattle.finish.specs.Lengths.{Guided}
+use Rattle.finish.specs.Found.{MayBegin, NextTold, OneLength, LengthTold}
+use Rattle.finish.specs.Worth.{Worth}
 use Rattle.finish.proofs.Sound.{logged-more}
-use Rattle.finish.proofs.LeftOut.{next-tries}
+use Rattle.finish.proofs.LeftOut.{allows-grown, next-tries}
 use Rattle.finish.proofs.Lengths.{first-empty, none-empty, NoneAfter, none-after, first-more, none-more}
 
 -- the test of a bit in the code
@@ -32,6 +38,17 @@ bit-on asked a h = eq-eqb (asked / 2 ^ a % 2) 1 h
 pub bit-off : (asked a : ℕ) → (asked / 2 ^ a % 2 ≡ 1 → ⊥) → on asked a ≡ false
 unfolding on
 bit-off asked a h = ne-eqb (asked / 2 ^ a % 2) 1 h
+
+-- an action that is asked for and worth trying, or not both
+pub asked-on : (asked worthy a : ℕ) → on (bitAnd asked worthy) a ≡ true → on asked a ≡ true
+asked-on asked worthy a h = and-iff (on asked a) (on worthy a) .0 (sym (on-and asked worthy a) ∙ h) .0
+
+neither-on : (asked worthy a : ℕ) → on (bitAnd asked worthy) a ≡ false → (on asked a ≡ false) ⊎ (on worthy a ≡ false)
+neither-on asked worthy a h = go (on asked a) (on worthy a) (sym (on-and asked worthy a) ∙ h)
+  where
+    go : (p q : Bool) → (p && q) ≡ false → (p ≡ false) ⊎ (q ≡ false)
+    go true q e = inr e
+    go false q e = inl refl
 
 -- one place more of the trail
 grown-trail : (trail now : List ℕ) (n a : ℕ) → n < length now → take n now ≡ take n trail → take (n + 1) (set now n a) ≡ take n trail ++ a ∷ []
@@ -61,9 +78,38 @@ module _ (s : Setting) (masks job : List ℕ) where
       go x true e = first-empty (At (take n trail)) x (e .0 refl)
       go x false e = none-empty (At (take n trail)) x (λ h. false≢true (e .1 h))
 
-  -- an action that is left out
-  pub passed-out : (log : List ℕ) (k a asked : ℕ) → NextTold (subjectOf s masks log) job asked → on asked a ≡ false → Passed log k a → Passed log k (a + 1)
-  passed-out log k a asked told off passed x j = passed-more log k a x (passed x j) (λ rest e. next-tries (At log) x asked (j .onward) (told .each x j) .leaves a off rest)
+  -- what is tried with k actions to follow
+  abbrev pub Tried : List ℕ → ℕ → ℕ → Type 0
+  Tried log k asked = (x : Walk) → JobIs job x → Tries (At log) x k asked
+
+  pub tried : (log follow : List ℕ) (left k m asked : ℕ) → left ≡ suc k → Guided (subjectOf s masks log) job follow left
+      → NextTold (allows follow m) (subjectOf s masks log) job asked → m ≡ k → Tried log k asked
+  tried log follow left k m asked one guided told same x j =
+      next-tries (At log) x follow k asked (omega (arith, guided .few)) (guided .told .each x j)
+      (subst (λ (i : ℕ). MayBegin (allows follow i) (At log) x asked) same (told .each x j))
+
+  -- an action that is left out: nothing finishes behind it, or a smaller one, gone over already, stands in for it
+  pub passed-out : (log : List ℕ) (k a asked worthy : ℕ) → Tried log k asked → Worth s masks job worthy → a < s .counts .actions
+      → on (bitAnd asked worthy) a ≡ false → Passed log k a → Passed log k (a + 1)
+  passed-out log k a asked worthy told worth known off passed x j =
+      passed-more log k a x (passed x j) (λ rest e c. elim (neither-on asked worthy a off) [
+        | inl f ↦ told x j .leaves a f rest e c
+        | inr f ↦ let h = worth .each x j a known f in passed x j (h .by) (h .smaller) rest e (h .completes log rest c)
+      ])
+
+  -- the table serves with one action more
+  pub guided-more : (trail now follow : List ℕ) (n left k a asked : ℕ) → left ≡ suc k → n < length now → take n now ≡ take n trail
+      → Guided (subjectOf s masks (take n trail)) job follow left → Tried (take n trail) k asked → on asked a ≡ true
+      → Guided (subjectOf s masks (take (n + 1) (set now n a))) job follow k
+  guided-more trail now follow n left k a asked one room same guided told here = record {
+    few = omega (arith, guided .few);
+    told = record {
+      each = λ x j.
+          let able = told x j .possible a here in
+          subst (λ (l : List ℕ). Allows (At l) x follow) (sym (grown-trail trail now n a room same))
+          (allows-grown (At (take n trail)) x follow a (able .0) (able .1) (guided .told .each x j));
+    };
+  }
 
   -- an action that is tried, and nothing is found behind it
   pub passed-tried : (trail now last : List ℕ) (n k a : ℕ) → n < length now → take n now ≡ take n trail
@@ -88,12 +134,12 @@ module _ (s : Setting) (masks job : List ℕ) where
       rw (drop-cons last n 0 (omega arith), here, add-one)
 
   pub tried-told : (trail now last : List ℕ) (n left k a asked : ℕ) → left ≡ suc k → n < length now → length last ≡ length now → take n now ≡ take n trail
-      → NextTold (subjectOf s masks (take n trail)) job asked → on asked a ≡ true → Passed (take n trail) k a
+      → Tried (take n trail) k asked → on asked a ≡ true → Passed (take n trail) k a
       → LengthTold s masks job (set now n a) (n + 1) k last true → LengthTold s masks job trail n left last true
   tried-told trail now last n left k a asked one room long same next here passed told = record {
     kept = kept-tried trail now last n a room same (told .kept);
     each = λ x j.
-        let able = next-tries (At (take n trail)) x asked (j .onward) (next .each x j) .possible a here in
+        let able = next x j .possible a here in
         rw (one, behind-tried now last n k a room long (told .kept))
         (first-more k (At (take n trail)) x a (take k (drop (n + 1) last)) (able .0) (able .1) (passed x j)
         (subst (λ (l : List ℕ). FirstOf k (At l) x (take k (drop (n + 1) last))) (grown-trail trail now n a room same) (told .each x j)));

@@ -4,17 +4,17 @@ use mathlib.Core.Logic.{_↔_}
 use mathlib.Core.Bool.{Bool, true, false}
 use mathlib.Core.List.{List}
 use Prim.Native.Nat.{ℕ, _+_, _≤_, _<_}
-use lib.ListN.{drop, take}
+use lib.ListN.{length, drop, take}
 use Rattle.refusal.specs.Number.{numberOf}
 use Rattle.laws.specs.Bit.{on}
 use Rattle.meaning.specs.Limits.{logLimit}
 use Rattle.meaning.specs.Theory.{World, Possible}
 use Rattle.meaning.specs.Rule.{Walk}
+use Rattle.meaning.specs.Asks.{AsksAt}
 use Rattle.meaning.specs.Finish.{First, None}
 use Rattle.theory.specs.Subject.{Subject, subjectOf, tableMasks, worldOf}
 use Rattle.theory.specs.declared.Setting.{Setting}
-use Rattle.finish.specs.Search.{FirstOf, NoneOf}
-use Rattle.finish.specs.Next.{MayCome}
+use Rattle.finish.specs.Search.{stands, FirstOf, NoneOf}
 use Rattle.finish.specs.Sound.{JobIs}
 use Rattle.finish.specs.Answer.{Finished}
 use Rattle.finish.specs.declared.FinishAnswer.{FinishAnswer}
@@ -26,9 +26,13 @@ use Rattle.finish.specs.declared.search.Found.the-variants.{At, Nothing}
 pub record Doable (actions : ℕ) (masks : List ℕ) (state asked : ℕ) : Type 0 where
   pub each : (a : ℕ) → (on asked a ≡ true) ↔ ((a < actions) × Possible (tableMasks masks a) state)
 
--- the actions that may come next, bit a for action a
-pub record NextTold (s : Subject) (job : List ℕ) (actions : ℕ) : Type 0 where
-  pub each : (x : Walk) → JobIs job x → MayCome (worldOf s) x actions
+-- the actions that may come next by the signs that may ask, bit a for action a
+abbrev pub MayBegin : (ℕ → Bool) → World → Walk → ℕ → Type 0
+MayBegin may w x actions =
+    (a : ℕ) → (on actions a ≡ true) ↔ ((a < w .actions) × Possible (w .masks a) (stands w) × AsksAt may w 0 x 0 (length (w .log)) a)
+
+pub record NextTold (may : ℕ → Bool) (s : Subject) (job : List ℕ) (actions : ℕ) : Type 0 where
+  pub each : (x : Walk) → JobIs job x → MayBegin may (worldOf s) x actions
 
 -- this is the first sequence of k actions that completes the job; there is none
 abbrev pub OneLength : Bool → ℕ → World → Walk → List ℕ → Type 0

@@ -3,13 +3,16 @@
 use mathlib.Core.Path.{_≡_}
 use mathlib.Core.Bool.{true, false}
 use mathlib.Core.List.{List, [], _∷_, _++_}
-use Prim.Native.Nat.{ℕ, _<_}
+use Prim.Native.Nat.{ℕ, _≤_, _<_}
 use lib.ListN.{length}
 use Rattle.laws.specs.Bit.{on}
+use Rattle.meaning.specs.Limits.{moreLimit}
 use Rattle.meaning.specs.Theory.{World, Possible, relog, run}
 use Rattle.meaning.specs.Rule.{Walk}
 use Rattle.meaning.specs.Leads.{Leads}
 use Rattle.meaning.specs.Finish.{Able, Smaller}
+use Rattle.meaning.specs.Asks.{AsksAt}
+use Rattle.meaning.specs.Lengths.{allows}
 
 -- the state in which the next action would be taken
 abbrev pub stands : World → ℕ
@@ -37,8 +40,15 @@ pub record FirstOf (k : ℕ) (w : World) (job : Walk) (ending : List ℕ) : Type
 abbrev pub NoneOf : ℕ → World → Walk → Type 0
 NoneOf k w job = (ending : List ℕ) → length ending ≡ k → Completes w job ending → ⊥
 
--- What the search asks of the answer "which actions to try next", a number with bit a for action a: each can be taken, and no action left out could
--- begin a rest that completes the job.
-pub record Tries (w : World) (job : Walk) (asked : ℕ) : Type 0 where
+-- The table of lengths leaves out no sign that is needed: whatever is tried, an action behind which so many more complete the job is asked for by a sign that may have so
+-- many behind it.
+abbrev pub Allows : World → Walk → List ℕ → Type 0
+Allows w job follow =
+    (tried : List ℕ) (a : ℕ) (rest : List ℕ) → length rest ≤ moreLimit → Completes w job (tried ++ a ∷ rest)
+    → AsksAt (allows follow (length rest)) (relog w (w .log ++ tried)) 0 job 0 (length (w .log ++ tried)) a
+
+-- What the search asks of the answer "which actions to try next, with so many to follow", a number with bit a for action a: each can be taken, and no action left out
+-- could begin a rest of that length that completes the job.
+pub record Tries (w : World) (job : Walk) (left asked : ℕ) : Type 0 where
   pub possible : (a : ℕ) → on asked a ≡ true → (a < w .actions) × Possible (w .masks a) (stands w)
-  pub leaves : (a : ℕ) → on asked a ≡ false → (rest : List ℕ) → Completes w job (a ∷ rest) → ⊥
+  pub leaves : (a : ℕ) → on asked a ≡ false → (rest : List ℕ) → length rest ≡ left → Completes w job (a ∷ rest) → ⊥

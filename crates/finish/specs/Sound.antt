@@ -4,7 +4,7 @@ use mathlib.Core.Bool.{false}
 use mathlib.Core.List.{List}
 use Prim.Native.Nat.{ℕ, _+_, _*_, _≤_, _<_}
 use lib.ListN.{length, getD, take}
-use Rattle.meaning.specs.Limits.{actionLimit, logLimit, places, textLimit}
+use Rattle.meaning.specs.Limits.{actionLimit, logLimit, places, textLimit, moreLimit}
 use Rattle.meaning.specs.Rule.{Walk, ofWalk, backward}
 use Rattle.meaning.specs.Theory.{stride}
 use Rattle.rule.specs.Standing.{Stands}
@@ -43,4 +43,5 @@ pub record Wanted (actions : ℕ) (masks log job : List ℕ) (more room : ℕ) :
   pub short : length job ≤ textLimit
   pub walk : Walk
   pub spelled : JobIs job walk
+  pub few : more ≤ moreLimit
   pub enough : more ≤ room

@@ -9,6 +9,9 @@ ghost use Rattle.finish.specs.Next.{actionsGiven, NextAnswered};
 ghost use Rattle.finish.specs.Found.{SoughtTold};
 
 mod checks; // checks.rt: which refusal the call is given before it searches
+mod follow; // follow.rt: how long a job can still be behind each step sign
+mod truth; // truth.rt: which tests can still come true
+mod standins; // standins.rt: the actions that need not be tried
 mod search; // search.rt: the search itself
 mod tries; // tries.rt: the actions to try next
 
@@ -88,7 +91,9 @@ pub fn next(s: Setting, masks: &[u32], log: &[u8], job: &[u8]) -> NextAnswer
         Check::Sound => {
             let mut ends = [0u8; ENDS_ROOM];
             fill_ends(job, &mut ends);
-            NextAnswer::Actions(tries::tries(s, masks, job, &ends, log))
+            // every sign may ask, whatever follows
+            let all = [255u8; ENDS_ROOM];
+            NextAnswer::Actions(tries::tries(s, masks, job, &ends, log, &all, 0))
         }
     }
 }

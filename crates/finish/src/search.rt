@@ -1,9 +1,16 @@
-// The search: lengths from 0 up, in each depth first in action order, over one trail that grows and shrinks in place.
+// The search: lengths from 0 up, in each depth first in action order, over one trail that grows and shrinks in place. How long the job can be behind each of its signs is
+// found once, where it is not finished as it stands.
 ghost use mathlib.Core.Path.{_≡_};
 ghost use Prim.Native.Nat.{_-_, _≤_, min};
-ghost use Rattle.meaning.specs.Limits.{logLimit};
+ghost use lib.ListN.{length, take};
+ghost use Rattle.meaning.specs.Limits.{logLimit, moreLimit, textLimit};
+ghost use Rattle.theory.specs.Subject.{subjectOf};
 ghost use Rattle.finish.specs.Sound.{Ready};
+ghost use Rattle.finish.specs.Lengths.{Guided};
 ghost use Rattle.finish.specs.Found.{LengthTold, FinishTold};
+ghost use Rattle.finish.specs.Worth.{Worth};
+use crate::follow::fill;
+use crate::standins::worth;
 use crate::tries::tries;
 use ask::job;
 use positions::PositionSet;
@@ -22,11 +29,13 @@ fn complete(
     masks: &[u32],
     job: &[u8],
     ends: &[u8; ENDS_ROOM],
+    follow: &[u8; ENDS_ROOM],
     trail: &mut [u8],
     n: usize,
     left: usize,
+    worthy: u64,
 ) -> bool
-    requires { ⌜ Ready (s .counts .actions) (now masks) (now job) (now ends) (now trail) n left ⌝ }
+    requires { ⌜ Ready (s .counts .actions) (now masks) (now job) (now ends) (now trail) n left × Guided (subjectOf s (now masks) (take n (now trail))) (now job) (now follow) left × Worth s (now masks) (now job) worthy ⌝ }
     ensures { λ r. ⌜ LengthTold s (now (masks .entry)) (now (job .entry)) (now (trail .entry)) n left (now (trail .exit)) r ⌝ }
 {
     if left == 0 {
@@ -34,15 +43,16 @@ fn complete(
     }
     let rest = left - 1;
     let next = n + 1;
-    let asked = tries(s, masks, job, ends, &trail[..n]);
+    let asked = tries(s, masks, job, ends, &trail[..n], follow, rest);
+    let tried = asked & worthy;
     let counts = s.counts;
     let actions = counts.actions;
     let mut a = 0;
     while a < actions {
-        let from_a = asked >> a;
+        let from_a = tried >> a;
         if from_a % 2 == 1 {
             trail[n] = a as u8;
-            if complete(s, masks, job, ends, trail, next, rest) {
+            if complete(s, masks, job, ends, follow, trail, next, rest, worthy) {
                 return true;
             }
         }
@@ -70,13 +80,22 @@ pub(crate) fn first(
     n: usize,
     more: usize,
 ) -> Found
-    requires { ⌜ Ready (s .counts .actions) (now masks) (now job) (now ends) (now trail) n 0 ⌝ }
+    requires { ⌜ Ready (s .counts .actions) (now masks) (now job) (now ends) (now trail) n 0 × (length (now job) ≤ textLimit) × (more ≤ moreLimit) ⌝ }
     ensures { λ r. ⌜ FinishTold s (now (masks .entry)) (now (job .entry)) (now (trail .entry)) n more (now (trail .exit)) r ⌝ }
 {
+    if job::ended(s, masks, &trail[..n], job, ends) {
+        return Found::At(0);
+    }
     let most = longest(n, more);
-    let mut k = 0;
+    if most == 0 {
+        return Found::Nothing;
+    }
+    let worthy = worth(s, masks, job);
+    let mut follow = [0u8; ENDS_ROOM];
+    fill(s, masks, job, ends, &trail[..n], &mut follow);
+    let mut k = 1;
     while k <= most {
-        if complete(s, masks, job, ends, trail, n, k) {
+        if complete(s, masks, job, ends, &follow, trail, n, k, worthy) {
             return Found::At(k);
         }
         k += 1;

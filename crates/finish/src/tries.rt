@@ -1,4 +1,5 @@
 // Which actions may come next: one answer, a word with bit a for action a.
+ghost use Rattle.meaning.specs.Lengths.{allows};
 ghost use Rattle.theory.specs.Subject.{subjectOf};
 ghost use Rattle.finish.specs.Sound.{Table, Node};
 ghost use Rattle.finish.specs.Found.{Doable, NextTold};
@@ -25,18 +26,21 @@ fn doable(actions: usize, masks: &[u32], state: u32) -> u64
     asked
 }
 
-// The actions that may come next: those that are possible and that the job asks for. No other could begin a rest that finishes the job.
+// The actions that may come next, with so many to follow: those that are possible and that the job asks for. No other could begin a rest of that length that finishes
+// the job.
 pub(crate) fn tries(
     s: Setting,
     masks: &[u32],
     job: &[u8],
     ends: &[u8; ENDS_ROOM],
     log: &[u8],
+    follow: &[u8; ENDS_ROOM],
+    left: usize,
 ) -> u64
     requires { ⌜ Node (s .counts .actions) (now masks) (now job) (now ends) (now log) ⌝ }
-    ensures { λ r. ⌜ NextTold (subjectOf s (now (masks .entry)) (now (log .entry))) (now (job .entry)) r ⌝ }
+    ensures { λ r. ⌜ NextTold (allows (now (follow .entry)) left) (subjectOf s (now (masks .entry)) (now (log .entry))) (now (job .entry)) r ⌝ }
 {
-    let asked = job::asked(s, masks, log, job, ends);
+    let asked = job::asked(s, masks, log, job, ends, follow, left);
     let end = log.len();
     let state = log::state_at(s, masks, log, end);
     let counts = s.counts;

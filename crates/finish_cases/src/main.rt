@@ -40,6 +40,9 @@ const COFFEE: [u32; 28] = [
     0,
 ];
 
+// 00 and 01 are alike; 02 and 03 too, but that fluent 00 bars 02; 04 wants fluent 01, puts 02 and drops 00.
+const ALIKE: [u32; 20] = [0, 0, 1, 0, 0, 0, 1, 0, 0, 1, 2, 0, 0, 0, 2, 0, 2, 0, 4, 1];
+
 fn labels() {
     io::write_all(1, b"document 01\n");
     run(2, 3, 0, &LABELS, b"\x00", b";a00|a02a00", 1);
@@ -115,6 +118,20 @@ fn every_office() {
     );
 }
 
+// A smaller action stands in for one that is alike, where the job names neither: not one with another ban, and not where a test tells them apart.
+fn stand_ins() {
+    io::write_all(1, b"stand-ins\n");
+    run(3, 5, 0, &ALIKE, b"", b";*n?f00", 6);
+    run(3, 5, 0, &ALIKE, b"", b";n?!<-a001", 6);
+    run(3, 5, 0, &ALIKE, b"", b";n?!<-a011", 6);
+    run(3, 5, 0, &ALIKE, b"", b";*n?f02", 6);
+    run(3, 5, 1, &ALIKE, b"", b";*n?f02", 6);
+    run(3, 5, 0, &ALIKE, b"\x01", b";*n?f02", 6);
+    run(3, 5, 0, &ALIKE, b"", b";*n?&f00f02", 6);
+    run(3, 5, 0, &ALIKE, b"", b";*n;a04;a04;a04;a04a04", 6);
+    run(3, 5, 0, &ALIKE, b"", b";*n;a04;a04;a04;a04a04", 5);
+}
+
 // Log and sequence together have at most 63 actions.
 fn limits() {
     let long = [0u8; 64];
@@ -124,6 +141,29 @@ fn limits() {
     run(2, 3, 0, &LABELS, &long[..63], b";*na01", 6);
     run(2, 3, 0, &LABELS, &long[..63], b"*n", 6);
     run(2, 3, 0, &LABELS, &long, b"*n", 6);
+}
+
+// A leading `*n` tries nothing that cannot be as long as the labels missing: actions that can always be taken and do nothing.
+fn any_first() {
+    let masks = [0u32; 256];
+    let log = [9u8; 50];
+    let void = b";*n;a05;a00;a01;a02;a03a04";
+    io::write_all(1, b"any steps first: 16, 24 and 64 actions\n");
+    run(0, 16, 0, &masks[..64], b"\x00\x01", void, 6);
+    run(0, 24, 0, &masks[..96], b"\x00\x01", void, 6);
+    run(0, 64, 0, &masks, b"\x00\x01", void, 6);
+    run(0, 64, 0, &masks, &log, b";*n;a50;a51;a52;a53;a54a55", 6);
+    run(0, 64, 0, &masks, &log, b";*n;a50;a51;a52;a53;a54a55", 5);
+}
+
+// A test that no action can make true, and one that is true already.
+fn never_true() {
+    let masks = [0u32; 256];
+    io::write_all(1, b"tests that cannot come true\n");
+    run(1, 64, 0, &masks, b"", b";*n?f00", 6);
+    run(1, 64, 1, &masks, b"", b";*n?!f00", 6);
+    run(1, 64, 1, &masks, b"", b";*n;?f00;a60a61", 6);
+    run(1, 64, 0, &masks, b"", b";*n|;?f00;a60a61;a62a63", 6);
 }
 
 fn bad_world() {
@@ -161,7 +201,10 @@ fn main() {
     listed();
     not_listed();
     every_office();
+    stand_ins();
     limits();
+    any_first();
+    never_true();
     bad_world();
     bad_job();
     short_output();

@@ -28,27 +28,27 @@ pub agree-append : (l more : List ℕ) (n : ℕ) → n ≤ length l → Agree (l
 agree-append l more n h = take-append-le n l more h
 
 -- where c holds of now, what r relates s relates; what x says of a position up to now, y says
-abbrev Kept : (ℕ → Type 0) → Rel → Rel → Type 0
+abbrev pub Kept : (ℕ → Type 0) → Rel → Rel → Type 0
 Kept c r s = (p q n : ℕ) → c n → r p q n → s p q n
 
-abbrev Stays : (ℕ → Type 0) → Truth → Truth → Type 0
+abbrev pub Stays : (ℕ → Type 0) → Truth → Truth → Type 0
 Stays c x y = (t n : ℕ) → c n → t ≤ n → x t n → y t n
 
-then-kept : {c : ℕ → Type 0} {r r′ s s′ : Rel} → Kept c r r′ → Kept c s s′ → Kept c (Then r s) (Then r′ s′)
+pub then-kept : {c : ℕ → Type 0} {r r′ s s′ : Rel} → Kept c r r′ → Kept c s s′ → Kept c (Then r s) (Then r′ s′)
 then-kept f g p q n e h = (h .0, f p (h .0) n e (h .1), g (h .0) q n e (h .2))
 
-or-kept : {c : ℕ → Type 0} {r r′ s s′ : Rel} → Kept c r r′ → Kept c s s′ → Kept c (Or r s) (Or r′ s′)
+pub or-kept : {c : ℕ → Type 0} {r r′ s s′ : Rel} → Kept c r r′ → Kept c s s′ → Kept c (Or r s) (Or r′ s′)
 or-kept f g p q n e (inl h) = inl (f p q n e h)
 or-kept f g p q n e (inr h) = inr (g p q n e h)
 
-many-kept : {c : ℕ → Type 0} {r s : Rel} → Kept c r s → Kept c (Many r) (Many s)
+pub many-kept : {c : ℕ → Type 0} {r s : Rel} → Kept c r s → Kept c (Many r) (Many s)
 many-kept f p q n e h = chain-map (λ i j. f i j n e) h
 
-some-stays : {c : ℕ → Type 0} {r s : Rel} {x y : Truth} → Within r → Kept c r s → Stays c x y → Stays c (Some r x) (Some s y)
+pub some-stays : {c : ℕ → Type 0} {r s : Rel} {x y : Truth} → Within r → Kept c r s → Stays c x y → Stays c (Some r x) (Some s y)
 some-stays low f g t n e l h = (h .0, f t (h .0) n e (h .1), g (h .0) n e (low t (h .0) n (h .1) .1) (h .2))
 
 -- what the converse relates is what the walk relates from q to p
-turned-kept : {c : ℕ → Type 0} {r r′ s s′ : Rel} → ((p q n : ℕ) → r′ p q n ↔ r q p n) → ((p q n : ℕ) → s′ p q n ↔ s q p n) → Kept c r s → Kept c r′ s′
+pub turned-kept : {c : ℕ → Type 0} {r r′ s s′ : Rel} → ((p q n : ℕ) → r′ p q n ↔ r q p n) → ((p q n : ℕ) → s′ p q n ↔ s q p n) → Kept c r s → Kept c r′ s′
 turned-kept turn turn′ f p q n e h = turn′ p q n .1 (f q p n e (turn p q n .0 h))
 
 -- a step of two worlds whose logs agree before now

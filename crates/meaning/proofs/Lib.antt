@@ -10,6 +10,7 @@ pub mod Reach
 pub mod Cut
 pub mod Onward
 pub mod Asks
+pub mod StandIn
 pub mod Reading
 pub mod Tells
 pub mod Grid
@@ -18,3 +19,6 @@ pub mod Evaluate
 pub mod Endings
 pub mod Cases
 pub mod Any
+pub mod Turning
+pub mod Measured
+pub mod AsksAt

@@ -31,7 +31,7 @@ or-onward : {r s : Rel} → Onward r → Onward s → Onward (Or r s)
 or-onward f g p q n (inl h) = f p q n h
 or-onward f g p q n (inr h) = g p q n h
 
-many-onward : {r : Rel} → Onward r → Onward (Many r)
+pub many-onward : {r : Rel} → Onward r → Onward (Many r)
 many-onward f p q n (stay e low) = omega arith
 many-onward f p q n (link {m = m} step more) = omega (arith, f p m n step, many-onward f m q n more)
 

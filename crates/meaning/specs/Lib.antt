@@ -7,4 +7,6 @@ pub mod Normal
 pub mod Finish
 pub mod Refusal
 pub mod Asks
+pub mod StandIn
 pub mod Cases
+pub mod Lengths

@@ -129,14 +129,20 @@ fn texts(d: &mut Dice, i: &Input, tally: &mut Tally) {
 fn finishes(d: &mut Dice, i: &Input, tally: &mut Tally) {
     let more = if d.once_in(20) { 7 } else if i.actions > 6 { d.below(3) } else { d.below(5) };
     let (run, i) = make::run(d, i, more);
+    finish(d, &i, &run, more, tally);
+    let (run, i, more) = make::searched(d);
+    finish(d, &i, &run, more, tally);
+}
+
+fn finish(d: &mut Dice, i: &Input, run: &[u8], more: usize, tally: &mut Tally) {
     let room = more + d.below(3) - d.below(2).min(more);
-    let plain = oracle::finish::finish(i.fluents, i.actions, i.start, &i.masks, &i.log, &run, more, room);
+    let plain = oracle::finish::finish(i.fluents, i.actions, i.start, &i.masks, &i.log, run, more, room);
     let call = if plain.as_ref().is_ok_and(|w| !w.is_empty()) { "finish with actions" } else { "finish" };
     tally.note(call, &plain);
-    same("finish", &(&i, &run, more, room), calls::finish(&i, &run, more, room), written(room, &plain));
+    same("finish", &(i, run, more, room), calls::finish(i, run, more, room), written(room, &plain));
     let mut out = vec![0; room];
-    let safe = job(&i).finish(&run, more, &mut out).map(|count| out[..count].to_vec());
-    same("finish, safe", &(&i, &run, more, room), numbered(safe), plain);
+    let safe = job(i).finish(run, more, &mut out).map(|count| out[..count].to_vec());
+    same("finish, safe", &(i, run, more, room), numbered(safe), plain);
 }
 
 fn sheets(d: &mut Dice, tally: &mut Tally) {

@@ -64,6 +64,18 @@ pub fn input(d: &mut Dice) -> Input {
             masks[4 * a + 1] = 0;
         }
     }
+    // Actions that do what a smaller one does, or nearly: the search tries the smaller one alone.
+    if d.once_in(3) {
+        for a in 1..actions {
+            if d.once_in(2) {
+                let like = 4 * d.below(a);
+                masks.copy_within(like..like + 4, 4 * a);
+                if d.once_in(3) {
+                    masks[4 * a + d.below(4)] = mask(d, fluents);
+                }
+            }
+        }
+    }
     let steps = d.pick(&[0, 1, 2, 3, 4, 5, 8, 13, 30, 62, 63]);
     let log = (0..steps).map(|_| d.below(actions) as u8).collect();
     let mut made = Input { fluents, actions, start, masks, log };
@@ -175,6 +187,41 @@ pub fn run(d: &mut Dice, i: &Input, more: usize) -> (Vec<u8>, Input) {
 fn steps(d: &mut Dice, actions: usize, most: usize) -> String {
     let more: String = (0..d.below(most + 1)).map(|_| format!(";a{}", number(d, actions))).collect();
     more + d.pick(&["?1", "*?1", "?!f00"])
+}
+
+/// A theory in which some action does the same as a smaller one, or nearly the same: one bit of one mask is another.
+fn alike(d: &mut Dice) -> Input {
+    let fluents = 1 + d.below(4);
+    let actions = 2 + d.below(4);
+    let mut masks: Vec<u32> = (0..4 * actions).map(|k| if k % 4 < 2 && !d.once_in(3) { 0 } else { mask(d, fluents) }).collect();
+    for a in 1..actions {
+        if !d.once_in(3) {
+            let model = d.below(a);
+            masks.copy_within(4 * model..4 * model + 4, 4 * a);
+            if d.once_in(3) {
+                masks[4 * a + d.below(4)] ^= 1 << d.below(fluents);
+            }
+        }
+    }
+    let log = (0..d.below(4)).map(|_| d.below(actions) as u8).collect();
+    Input { fluents, actions, start: mask(d, fluents), masks, log }
+}
+
+/// A job that is looked for long: it begins with `*n` or waits for any action further on, takes up to all six steps, has actions that stand in for one another, or cannot be finished.
+pub fn searched(d: &mut Dice) -> (Vec<u8>, Input, usize) {
+    let i = alike(d);
+    let most = if i.actions < 4 { 6 } else { 4 };
+    let any = |k: usize| ";n".repeat(k);
+    let there = test(d, 3, i.fluents, i.actions);
+    let text = match d.below(6) {
+        0 => format!(";*n{}", steps(d, i.actions, most)),
+        1 => format!(";*n{}?{there}", any(d.below(most + 1))),
+        2 => format!(";*n;?{there}{}?1", any(d.below(3))),
+        3 => format!(";*n*|{}?{there}", walk(d, 2, i.fluents, i.actions, true)),
+        4 => format!("{}{}", any(i.log.len()), steps(d, i.actions, most)),
+        _ => format!(";*n;*;{}n?{there}", walk(d, 2, i.fluents, i.actions, true)),
+    };
+    (text.into_bytes(), i, most)
 }
 
 fn damage_text(d: &mut Dice, text: &mut Vec<u8>) {

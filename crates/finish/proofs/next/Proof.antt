@@ -10,6 +10,8 @@ use Rattle.theory.specs.declared.Check.{Check}
 use Rattle.theory.specs.declared.Check.the-variants.{Sound}
 use Rattle.finish.specs.Next.{nextRows}
 use Rattle.finish.proofs.Checking.{Job, logged-passed, job-passed, job-is}
+use Rattle.finish.proofs.LeftOut.{begin-come}
+use Rattle.finish.proofs.Filled.{all-allowed}
 use Rattle.finish.proofs.next.Statement.{statement}
 use Rattle.finish.proofs.next.Tie as tie
 
@@ -49,9 +51,9 @@ job c = let s = start (c .before .before) in job-passed (subject s) (now (s .arg
 
 tries-requires : tie.Need-tries-requires
 tries-requires c κs =
-    let t = told c in
+    let t = told (c .before) in
     let s = start (t .before .before) in
-    let marked = c .before .before .fill-ends in
+    let marked = c .before .before .before .fill-ends in
     record {
       logged = logged-passed (subject s) (now (s .args .job)) (passed t);
       stands = record { walk = job t .walk; stands = job-is (job t) .there; marked = ends-told _ _ (job t .short) (marked .ensures) };
@@ -64,11 +66,11 @@ returns c =
 
 returns-2 : tie.Need-returns-2
 returns-2 c =
-    let t = told (c .before) in
+    let t = told (c .before .before) in
     inr (record {
       none = refl;
       accepted = passed t;
-      right = record { walk = job t .walk; spells = job t .spells; told = c .tries .ensures .each (job t .walk) (job-is (job t)) };
+      right = record { walk = job t .walk; spells = job t .spells; told = begin-come _ _ (job t .walk) _ (all-allowed _ (job t .walk) (job t .short) (job-is (job t) .there)) (c .tries .ensures .each (job t .walk) (job-is (job t))) };
     })
 
 pub next-spec : {M : Type 1} → statement M

@@ -59,8 +59,12 @@ first-requires c κs =
     let a = s .args in
     let copy = p .copy in
     let marked = p .before .before .before .fill-ends in
-    ready-first (a .s .counts .actions) (now (a .masks)) (now (a .log)) (now (a .job)) (marked .last .1 .0) (copy .last .1 .0) (a .more) (length (now (a .out)))
-    (copy .result) (want s) (ends-told _ _ (want s .short) (marked .ensures)) (copy .kept .1 .0) (copy .ensures .0) (front p)
+    let w = want s in (
+      ready-first (a .s .counts .actions) (now (a .masks)) (now (a .log)) (now (a .job)) (marked .last .1 .0) (copy .last .1 .0) (a .more) (length (now (a .out)))
+          (copy .result) w (ends-told _ _ (w .short) (marked .ensures)) (copy .kept .1 .0) (copy .ensures .0) (front p),
+      w .short,
+      w .few,
+    )
 
 enum-told : tie.Need-enum-told
 enum-told c = search needs

@@ -14,14 +14,14 @@ asks-keeping-requires c κs = search needs
 returns : tie.Need-returns
 returns c = search needs
 
-slice-aggregate-asks : tie.Need-slice-aggregate-asks
-slice-aggregate-asks c = search needs
+slice-aggregate-onward : tie.Need-slice-aggregate-onward
+slice-aggregate-onward c = search needs
 
-asks-requires : tie.Need-asks-requires
-asks-requires c κs = search needs
+onward-requires : tie.Need-onward-requires
+onward-requires c κs = search needs
 
 returns-2 : tie.Need-returns-2
-returns-2 c = ask-exact (nothing-kept 0) (c .before .asks .ensures)
+returns-2 c = ask-exact (nothing-kept 0) (c .before .onward .ensures)
 
 pub asks-spec : {M : Type 1} → statement M
-asks-spec = tie.close (tie.spec keeps-requires asks-keeping-requires returns slice-aggregate-asks asks-requires returns-2)
+asks-spec = tie.close (tie.spec keeps-requires asks-keeping-requires returns slice-aggregate-onward onward-requires returns-2)

@@ -7,14 +7,14 @@ use Rattle.ask.proofs.Runs.{ask-exact}
 use Rattle.ask.proofs.run.asks_keeping.Statement.{statement}
 use Rattle.ask.proofs.run.asks_keeping.Tie as tie
 
-slice-aggregate-asks : tie.Need-slice-aggregate-asks
-slice-aggregate-asks c = search needs
+slice-aggregate-onward : tie.Need-slice-aggregate-onward
+slice-aggregate-onward c = search needs
 
-asks-requires : tie.Need-asks-requires
-asks-requires c κs = search needs
+onward-requires : tie.Need-onward-requires
+onward-requires c κs = search needs
 
 returns : tie.Need-returns
-returns c = ask-exact (nothing-kept (textLimit + 1)) (c .before .asks .ensures)
+returns c = ask-exact (nothing-kept (textLimit + 1)) (c .before .onward .ensures)
 
 pub asks-keeping-spec : {M : Type 1} → statement M
-asks-keeping-spec = tie.close (tie.spec slice-aggregate-asks asks-requires returns)
+asks-keeping-spec = tie.close (tie.spec slice-aggregate-onward onward-requires returns)

@@ -5,6 +5,7 @@ use denote.Ref.{now}
 use lib.ListN.{length}
 use Rattle.meaning.specs.Theory.{stateAt}
 use Rattle.meaning.proofs.Theory.{state-end}
+use Rattle.meaning.specs.Lengths.{allows}
 use Rattle.theory.specs.Subject.{Readable, subjectOf, worldOf}
 use Rattle.finish.proofs.Sound.{readable}
 use Rattle.finish.proofs.LeftOut.{asked-next}
@@ -35,7 +36,7 @@ returns c =
           let subject = subjectOf (a .s) (now (a .masks)) (now (a .log)) in
           let w = worldOf subject in
           let here : c .before .before .state-at .result ≡ stateAt w (length (now (a .log))) = c .before .before .state-at .ensures in
-          asked-next subject x (c .before .before .state-at .result) (c .doable .result)
+          asked-next (allows (now (a .follow)) (a .left)) subject x (c .before .before .state-at .result) (c .doable .result)
           (c .before .before .before .asked .result) (s .pre .logged .table .few) (here ∙ state-end w) (c .doable .ensures)
           (c .before .before .before .asked .ensures .each x (j .there));
     }

@@ -1,0 +1,278 @@
+-- The actions that a smaller one stands in for: the laws of the functions that look for them, and what the search has of it. Knows words and masks.
+use mathlib.Core.Path.{_≡_, refl, sym, ap, subst, _∙_}
+use mathlib.Core.Logic.{_⊎_, inl, inr}
+use mathlib.Core.Bool.{Bool, true, false, not, _&&_, _||_, xor}
+use mathlib.Core.List.{List, _∷_, _++_}
+use Prim.Native.Nat.{ℕ, _+_, _-_, _*_, _%_, _^_, _≤_, _<_}
+use native.Mathlib.Decide.{ℕ-discrete, decLt}
+use native.Mathlib.Omega.{arith}
+use lib.Bits.{bitAnd, bitOr, bitXor}
+use lib.Dec.{ltb}
+use lib.ListN.{length, length-append, getD, List·getD-eq-default}
+use borrow.Author.Tests.{eq-eqb, ne-eqb, lt-ltb}
+use Rattle.laws.specs.Bit.{on}
+use Rattle.laws.proofs.Truth.{off-on, and-iff, or-iff}
+use Rattle.laws.proofs.On.{on-none, on-high}
+use Rattle.laws.proofs.Bitwise.{on-and, on-or, on-xor}
+use Rattle.laws.proofs.Shift.{on-not, on-one-shl, on-ones}
+use Rattle.meaning.specs.Limits.{actionLimit, fluentLimit}
+use Rattle.meaning.specs.Theory.{masksOf, stride}
+use Rattle.meaning.specs.Rule.{Walk}
+use Rattle.meaning.specs.StandIn.{among, NamesNone, Idle, Alike, StandsIn}
+use Rattle.meaning.proofs.StandIn.{stand-in-leads, stand-in-able}
+use Rattle.spelling.specs.declared.Digits.the-variants.{Number, Other}
+use Rattle.spelling.specs.Scan.{NumberAt}
+use Rattle.spelling.proofs.Determined.{two-digits-determined}
+use Rattle.theory.specs.Subject.{subjectOf, tableMasks, worldOf}
+use Rattle.theory.specs.declared.Setting.{Setting}
+use Rattle.finish.specs.Sound.{Table}
+use Rattle.finish.proofs.Names.{names-none}
+use Rattle.finish.specs.Worth.{others, Behind, Named, Decisive, Like, Sifted, StoodIn, Worth}
+
+-- what a word holds, the others lack; and what the others lack, it holds
+others-lack : (word i : ℕ) → on word i ≡ true → on (others word) i ≡ false
+others-lack word i h = elim (decLt word (2 ^ actionLimit)) [
+  | yes l ↦ on-not actionLimit l i ∙ both (ltb i actionLimit) (on word i) h
+  | no l ↦ let none : others word ≡ 0 = omega arith in rw (none, on-none i)
+]
+  where
+    both : (a b : Bool) → b ≡ true → (a && not b) ≡ false
+    both true b e = rw e
+    both false b e = refl
+
+word-holds : (word i : ℕ) → word < 2 ^ actionLimit → i < actionLimit → on (others word) i ≡ false → on word i ≡ true
+word-holds word i l low h = held (on word i) (sym (ap (λ (b : Bool). b && not (on word i)) (lt-ltb i actionLimit low)) ∙ sym (on-not actionLimit l i) ∙ h)
+  where
+    held : (b : Bool) → not b ≡ false → b ≡ true
+    held true e = refl
+    held false e = sym e
+
+-- the number at a place, as a bit
+module _ (text : List ℕ) (at : ℕ) where
+  pub one-bit : (m n : ℕ) → m < actionLimit → NumberAt text at (Number m) → NumberAt text at (Number n) → on (1 * 2 ^ m % 2 ^ actionLimit) n ≡ true
+  one-bit m n low here there =
+      let same = two-digits-determined text at (Number m) (Number n) here there in
+      let e : m ≡ n = cc in
+      on-one-shl m actionLimit n low ∙ eq-eqb n m (sym e)
+
+  pub no-bit : (m n : ℕ) → actionLimit ≤ m → n < actionLimit → NumberAt text at (Number m) → NumberAt text at (Number n) → ⊥
+  no-bit m n high low here there =
+      let same = two-digits-determined text at (Number m) (Number n) here there in
+      let e : m ≡ n = cc in
+      omega arith
+
+  pub no-number : (n : ℕ) → NumberAt text at Other → NumberAt text at (Number n) → ⊥
+  no-number n other there = other n _ (there .0) (there .1)
+
+-- the numbers behind two signs, a place after the other
+module _ (text : List ℕ) (one other : ℕ) where
+  pub named-none : Named text one other 0 0
+  named-none = record { each = λ at n low few h. absurd (omega arith) }
+
+  pub named-more : (k all bit : ℕ) → ((n : ℕ) → n < actionLimit → Behind text one other k n → on bit n ≡ true) → Named text one other k all
+      → Named text one other (k + 1) (bitOr all bit)
+  named-more k all bit here d = record {
+    each = λ at n low few h. on-or all bit n ∙ or-iff (on all n) (on bit n) .1 (elim (ℕ-discrete at k) [
+      | yes e ↦ inr (here n few (subst (λ (i : ℕ). Behind text one other i n) e h))
+      | no e ↦ inl (d .each at n (omega arith) few h)
+    ]);
+  }
+
+-- the fluents of needs and bans, an action after the other
+module _ (masks : List ℕ) where
+  pub decisive-none : Decisive masks 0 0
+  decisive-none = record { needed = λ a i low h. absurd (omega arith); banned = λ a i low h. absurd (omega arith) }
+
+  pub decisive-more : (k all : ℕ) → Decisive masks k all
+      → Decisive masks (k + 1) (bitOr all (bitOr (tableMasks masks k .need) (tableMasks masks k .ban)))
+  decisive-more k all d = record {
+    needed = λ a i low h. into i (elim (ℕ-discrete a k) [
+      | yes e ↦ inr (inl (subst (λ (j : ℕ). on (tableMasks masks j .need) i ≡ true) e h))
+      | no e ↦ inl (d .needed a i (omega arith) h)
+    ]);
+    banned = λ a i low h. into i (elim (ℕ-discrete a k) [
+      | yes e ↦ inr (inr (subst (λ (j : ℕ). on (tableMasks masks j .ban) i ≡ true) e h))
+      | no e ↦ inl (d .banned a i (omega arith) h)
+    ]);
+  }
+    where
+      need : ℕ
+      need = tableMasks masks k .need
+
+      ban : ℕ
+      ban = tableMasks masks k .ban
+
+      into : (i : ℕ) → (on all i ≡ true) ⊎ ((on need i ≡ true) ⊎ (on ban i ≡ true)) → on (bitOr all (bitOr need ban)) i ≡ true
+      into i (inl h) = on-or all (bitOr need ban) i ∙ or-iff (on all i) (on (bitOr need ban) i) .1 (inl h)
+      into i (inr h) = on-or all (bitOr need ban) i ∙ or-iff (on all i) (on (bitOr need ban) i) .1 (inr (on-or need ban i ∙ or-iff (on need i) (on ban i) .1 h))
+
+-- nothing that matters is put by one alone, or dropped by one alone
+module _ (put drop put′ drop′ matter : ℕ) (fits : put < 2 ^ fluentLimit) (fits′ : put′ < 2 ^ fluentLimit) (small : matter < 2 ^ actionLimit) where
+  abbrev Dropped : ℕ → ℕ → ℕ
+  Dropped d p = bitAnd d (2 ^ fluentLimit - 1 - p)
+
+  abbrev Differ : ℕ
+  Differ = bitOr (bitXor put put′) (bitXor (Dropped drop put) (Dropped drop′ put′))
+
+  pub effects-alike : bitAnd Differ matter ≡ 0 → (need ban : ℕ) → Alike (others matter) (masksOf need ban put drop) (masksOf need ban put′ drop′)
+  unfolding xor
+  effects-alike none need ban = record {
+    need = refl;
+    ban = refl;
+    put = λ i l e. same (on put i) (on put′ i) (parts i l e .0);
+    drop = λ i l e p.
+        let q : on put′ i ≡ false = sym (same (on put i) (on put′ i) (parts i l e .0)) ∙ p in
+        sym (kept drop put i fits l p) ∙ same (on (Dropped drop put) i) (on (Dropped drop′ put′) i) (parts i l e .1) ∙ kept drop′ put′ i fits′ l q;
+  }
+    where
+      same : (a b : Bool) → xor a b ≡ false → a ≡ b
+      same true true h = refl
+      same true false h = h
+      same false true h = sym h
+      same false false h = refl
+
+      -- what is not put is dropped as drop says
+      kept : (d p i : ℕ) → p < 2 ^ fluentLimit → i < fluentLimit → on p i ≡ false → on (Dropped d p) i ≡ on d i
+      kept d p i l low h = rw (on-and, on-not fluentLimit l i, lt-ltb i fluentLimit low, h) (unit (on d i))
+        where
+          unit : (b : Bool) → (b && true) ≡ b
+          unit true = refl
+          unit false = refl
+
+      first-off : (a b : Bool) → (a && b) ≡ false → b ≡ true → a ≡ false
+      first-off true b h e = sym e ∙ h
+      first-off false b h e = refl
+
+      halves : (a b : Bool) → (a || b) ≡ false → (a ≡ false) × (b ≡ false)
+      halves true b h = (h, absurd (off-on h refl))
+      halves false b h = (refl, h)
+
+      parts : (i : ℕ) → i < fluentLimit → on (others matter) i ≡ false
+          → (xor (on put i) (on put′ i) ≡ false) × (xor (on (Dropped drop put) i) (on (Dropped drop′ put′) i) ≡ false)
+      parts i l e =
+          let held : on matter i ≡ true = word-holds matter i small (omega arith) e in
+          let off : on Differ i ≡ false = first-off (on Differ i) (on matter i) (sym (on-and Differ matter i) ∙ ap (λ (n : ℕ). on n i) none ∙ on-none i) held in
+          let two = halves (on (bitXor put put′) i) (on (bitXor (Dropped drop put) (Dropped drop′ put′)) i) (sym (on-or _ _ i) ∙ off) in
+          (sym (on-xor put put′ i) ∙ two .0, sym (on-xor (Dropped drop put) (Dropped drop′ put′) i) ∙ two .1)
+
+-- All actions, and of the first k those that no smaller one stands in for
+abbrev pub Unsifted : ℕ → ℕ → Type 0
+Unsifted k kept = (b : ℕ) → k ≤ b → b < actionLimit → on kept b ≡ true
+
+pub unsifted-all : Unsifted 0 (2 ^ actionLimit - 1)
+unsifted-all b low few = on-ones actionLimit b ∙ lt-ltb b actionLimit few
+
+-- the word without one action
+without : (kept b c : ℕ) → c < actionLimit → b < actionLimit → (c ≡ b → ⊥) → on (bitAnd kept (2 ^ actionLimit - 1 - 1 * 2 ^ b % 2 ^ actionLimit)) c ≡ on kept c
+without kept b c few known apart =
+    rw (on-and, on-not actionLimit {a = 1 * 2 ^ b % 2 ^ actionLimit} (omega arith) c, on-one-shl b actionLimit c known, lt-ltb c actionLimit few, ne-eqb c b apart) (unit (on kept c))
+  where
+    unit : (x : Bool) → (x && true) ≡ x
+    unit true = refl
+    unit false = refl
+
+pub unsifted-out : (k kept : ℕ) → k < actionLimit → Unsifted k kept
+    → Unsifted (k + 1) (bitAnd kept (2 ^ actionLimit - 1 - 1 * 2 ^ k % 2 ^ actionLimit))
+unsifted-out k kept few all b low short = without kept k b short few (omega arith) ∙ all b (omega arith) short
+
+module _ (masks : List ℕ) (unnamed idle : ℕ) where
+  pub sifted-none : (kept : ℕ) → Sifted masks unnamed idle 0 kept
+  sifted-none kept = record { stood = λ b low off. absurd (omega arith) }
+
+  -- the next action is kept
+  pub sifted-kept : (k kept : ℕ) → k < actionLimit → Unsifted k kept → Sifted masks unnamed idle k kept → Sifted masks unnamed idle (k + 1) kept
+  sifted-kept k kept few all d = record {
+    stood = λ b low off. elim (ℕ-discrete b k) [
+      | yes e ↦ absurd (off-on off (all b (omega arith) (omega arith)))
+      | no e ↦ d .stood b (omega arith) off
+    ];
+  }
+
+  -- it is left out
+  pub sifted-out : (k kept a : ℕ) → k < actionLimit → StandsIn (tableMasks masks) unnamed idle a k → Sifted masks unnamed idle k kept
+      → Sifted masks unnamed idle (k + 1) (bitAnd kept (2 ^ actionLimit - 1 - 1 * 2 ^ k % 2 ^ actionLimit))
+  sifted-out k kept a few h d = record {
+    stood = λ b low off. elim (ℕ-discrete b k) [
+      | yes e ↦ (a, subst (λ (i : ℕ). StandsIn (tableMasks masks) unnamed idle a i) (sym e) h)
+      | no e ↦ d .stood b (omega arith) (sym (without kept k b (omega arith) few e) ∙ off)
+    ];
+  }
+
+-- one of those kept that the job does not name either
+pub like-stands : (masks : List ℕ) (kept unnamed matter b : ℕ) → on unnamed b ≡ true → Like masks (bitAnd kept unnamed) matter b
+    → (a : ℕ) × StandsIn (tableMasks masks) unnamed (others matter) a b
+like-stands masks kept unnamed matter b free h = (
+  h .by,
+  record {
+    smaller = h .smaller;
+    apart = and-iff (on kept (h .by)) (on unnamed (h .by)) .0 (sym (on-and kept unnamed (h .by)) ∙ h .one) .1;
+    spared = free;
+    alike = h .alike;
+  },
+)
+
+-- with a stand-in in its place, what completes the job does so still
+pub stand-in-completes : (s : Setting) (masks : List ℕ) (x : Walk) (unnamed idle a b : ℕ) → Idle (tableMasks masks) idle → NamesNone unnamed idle x
+    → StandsIn (tableMasks masks) unnamed idle a b → StoodIn s masks x b
+stand-in-completes s masks x unnamed idle a b quiet none h = record {
+  by = a;
+  smaller = h .smaller;
+  completes = λ log rest c.
+      let w = worldOf (subjectOf s masks log) in
+      let long : length (log ++ b ∷ rest) ≡ length (log ++ a ∷ rest) = simp length-append in
+      record {
+        able = stand-in-able w unnamed idle quiet (w .actions) a b h _ rest (c .able);
+        done = rw (← long) (stand-in-leads w unnamed idle quiet x none a b h log rest _ _ _ (c .done));
+      };
+}
+
+-- a fluent of no need and no ban of the table
+pub idle-others : (masks : List ℕ) (actions fluents decide : ℕ) → Table actions masks → Decisive masks actions decide → Idle (tableMasks masks) (others (bitOr fluents decide))
+idle-others masks actions fluents decide table d = record {
+  needed = λ a i h. others-lack (bitOr fluents decide) i (into i (elim (decLt a actions) [
+    | yes l ↦ d .needed a i l h
+    | no l ↦ absurd (off-on (blank (stride * a) i (omega arith)) h)
+  ]));
+  banned = λ a i h. others-lack (bitOr fluents decide) i (into i (elim (decLt a actions) [
+    | yes l ↦ d .banned a i l h
+    | no l ↦ absurd (off-on (blank (stride * a + 1) i (omega arith)) h)
+  ]));
+}
+  where
+    blank : (k i : ℕ) → stride * actions ≤ k → on (getD masks k 0) i ≡ false
+    blank k i high = rw (List·getD-eq-default masks 0 {n = k} (omega arith)) (on-none i)
+
+    into : (i : ℕ) → on decide i ≡ true → on (bitOr fluents decide) i ≡ true
+    into i h = on-or fluents decide i ∙ or-iff (on fluents i) (on decide i) .1 (inr h)
+
+-- every action is worth trying; or all but those that are sifted out
+pub all-worth : (s : Setting) (masks job : List ℕ) → s .counts .actions ≤ actionLimit → Worth s masks job (2 ^ actionLimit - 1)
+all-worth s masks job few = record { each = λ x j b low off. absurd (off-on off (unsifted-all b (omega arith) (omega arith))) }
+
+pub sifted-worth : (s : Setting) (masks job : List ℕ) (labels fluents decide kept : ℕ) → Table (s .counts .actions) masks
+    → Named job 97 114 (length job) labels → Named job 102 102 (length job) fluents → Decisive masks (s .counts .actions) decide
+    → Sifted masks (others labels) (others (bitOr fluents decide)) (s .counts .actions) kept → Worth s masks job kept
+sifted-worth s masks job labels fluents decide kept table acts shows d sift = record {
+  each = λ x j b low off.
+      let found = sift .stood b low off in
+      stand-in-completes s masks x (others labels) (others (bitOr fluents decide)) (found .0) b (idle-others masks (s .counts .actions) fluents decide table d)
+      (names-none job (among (others labels)) (among (others (bitOr fluents decide))) act-none fluent-none 0 x (j .there)) (found .1);
+}
+  where
+    unheld : (word n : ℕ) → on word n ≡ true → among (others word) n ≡ 0
+    unheld word n h = rw (others-lack word n h)
+
+    beyond : (word n : ℕ) → actionLimit ≤ n → among (others word) n ≡ 0
+    beyond word n high = rw (on-high actionLimit {n = others word} (omega arith) high)
+
+    act-none : (at n : ℕ) → at < length job → Behind job 97 114 at n → among (others labels) n ≡ 0
+    act-none at n low h = elim (decLt n actionLimit) [
+      | yes l ↦ unheld labels n (acts .each at n low l h)
+      | no l ↦ beyond labels n (omega arith)
+    ]
+
+    fluent-none : (at n : ℕ) → at < length job → Behind job 102 102 at n → among (others (bitOr fluents decide)) n ≡ 0
+    fluent-none at n low h = elim (decLt n actionLimit) [
+      | yes l ↦ unheld (bitOr fluents decide) n (on-or fluents decide n ∙ or-iff (on fluents n) (on decide n) .1 (inl (shows .each at n low l h)))
+      | no l ↦ beyond (bitOr fluents decide) n (omega arith)
+    ]

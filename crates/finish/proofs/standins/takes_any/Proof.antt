@@ -1,0 +1,47 @@
+-- `finish::standins::takes_any` ends, and reads within the text.
+use Prim.Native.Nat.{_-_, _≤_}
+use native.Mathlib.Omega.{arith}
+use lib.ListN.{length}
+use Rattle.finish.proofs.standins.takes_any.Statement.{statement}
+use Rattle.finish.proofs.standins.takes_any.Tie as tie
+
+abbrev Inv-loop : tie.InvT-loop
+Inv-loop job at₀ at = at ≤ length job
+
+abbrev μ-loop : tie.MeasureT-loop
+μ-loop job at₀ at = length job - at
+
+loop-holds : tie.Need-loop-holds Inv-loop μ-loop
+loop-holds c = omega arith
+
+shared-slice-read-if1 : tie.Need-shared-slice-read-if1 Inv-loop μ-loop
+shared-slice-read-if1 c = omega arith
+
+returns : tie.Need-returns Inv-loop μ-loop
+returns c = tt
+
+add-at : tie.Need-add-at Inv-loop μ-loop
+add-at c = omega arith
+
+loop-less : tie.Need-loop-less Inv-loop μ-loop
+loop-less c = omega arith
+
+loop-again : tie.Need-loop-again Inv-loop μ-loop
+loop-again c = omega arith
+
+returns-2 : tie.Need-returns-2 Inv-loop μ-loop
+returns-2 c = tt
+
+pub takes-any-spec : {M : Type 1} → statement M
+takes-any-spec =
+    tie.close
+    (tie.spec
+    Inv-loop
+    μ-loop
+    loop-holds
+    shared-slice-read-if1
+    returns
+    add-at
+    loop-less
+    loop-again
+    returns-2)

@@ -1,0 +1,52 @@
+-- `finish::standins::worth` meets its contract: all actions, or those that are not sifted out.
+use denote.Ref.{now}
+use borrow.Author.Needs.{needs}
+use Rattle.finish.proofs.Stood.{all-worth, sifted-worth}
+use Rattle.finish.proofs.standins.worth.Statement.{statement}
+use Rattle.finish.proofs.standins.worth.Tie as tie
+
+takes-any-requires : tie.Need-takes-any-requires
+takes-any-requires c κs = search needs
+
+returns : tie.Need-returns
+returns c =
+    let s = c .before .before .before .before in
+    all-worth (s .args .s) (now (s .args .masks)) (now (s .args .job)) (s .pre .few)
+
+named-requires : tie.Need-named-requires
+named-requires c κs = search needs
+
+named-requires-2 : tie.Need-named-requires-2
+named-requires-2 c κs = search needs
+
+decisive-requires : tie.Need-decisive-requires
+decisive-requires c κs = search needs
+
+wide-requires : tie.Need-wide-requires
+wide-requires c κs = search needs
+
+sifted-requires : tie.Need-sifted-requires
+sifted-requires c κs = search needs
+
+returns-2 : tie.Need-returns-2
+returns-2 c =
+    let s = c .before .before .before .before .before .before .before .before .before .before in
+    let a = s .args in
+    let labels = c .before .before .before .before .named in
+    let fluents = c .before .before .before .named2 in
+    let tested = c .before .wide in
+    sifted-worth (a .s) (now (a .masks)) (now (a .job)) (labels .result) (fluents .result) (tested .result) (c .sifted .result) (s .pre)
+    (labels .ensures) (fluents .ensures) (rw (tested .ensures) (c .before .before .decisive .ensures)) (c .sifted .ensures)
+
+pub worth-spec : {M : Type 1} → statement M
+worth-spec =
+    tie.close
+    (tie.spec
+    takes-any-requires
+    returns
+    named-requires
+    named-requires-2
+    decisive-requires
+    wide-requires
+    sifted-requires
+    returns-2)

@@ -1,0 +1,198 @@
+// Actions that a smaller one stands in for: the job names neither, both are possible in the same states, and both do the same to every fluent that
+// matters (named in the job, or in any need or ban). Of the sequences that finish, the first has none of them: with the smaller action in its place it
+// would come earlier. Knows the mask table and the job's text; no log.
+ghost use mathlib.Core.Path.{_≡_};
+ghost use mathlib.Core.Bool.{true};
+ghost use Prim.Native.Nat.{ℕ, _+_, _*_, _≤_, _<_};
+ghost use lib.ListN.{length};
+ghost use Rattle.laws.specs.Bit.{on};
+ghost use Rattle.meaning.specs.Limits.{actionLimit};
+ghost use Rattle.meaning.specs.Theory.{stride, masksOf};
+ghost use Rattle.meaning.specs.StandIn.{Alike};
+ghost use Rattle.spelling.specs.declared.Digits.the-variants.{Number};
+ghost use Rattle.spelling.specs.Scan.{NumberAt};
+ghost use Rattle.theory.specs.Subject.{tableMasks};
+ghost use Rattle.finish.specs.Sound.{Table};
+ghost use Rattle.finish.specs.Worth.{others, Behind, Named, Decisive, Like, Sifted, Worth};
+use spelling::Digits;
+use spelling::scan::two_digits;
+use theory::ACTION_LIMIT;
+use theory::STRIDE;
+use theory::Setting;
+
+// The number at a place, as a bit; none where it is past the last action, or no number.
+fn number_bit(text: &[u8], at: usize) -> u64
+    ensures { λ r. ⌜ ((n : ℕ) → n < actionLimit → NumberAt (now (text .entry)) at (Number n) → on r n ≡ true) ⌝ }
+{
+    match two_digits(text, at) {
+        Digits::Number(n) => {
+            let a = n as usize;
+            if a < ACTION_LIMIT { 1 << a } else { 0 }
+        }
+        Digits::Other => 0,
+    }
+}
+
+// The number behind one of two signs, as a bit; none where neither stands.
+fn bit_behind(text: &[u8], one: u8, other: u8, at: usize) -> u64
+    requires { ⌜ at < length (now text) ⌝ }
+    ensures { λ r. ⌜ ((n : ℕ) → n < actionLimit → Behind (now (text .entry)) one other at n → on r n ≡ true) ⌝ }
+{
+    let sign = text[at];
+    let name = at + 1;
+    if sign == one {
+        return number_bit(text, name);
+    }
+    if sign == other {
+        return number_bit(text, name);
+    }
+    0
+}
+
+// The numbers behind one of two signs, in the whole text.
+fn named(text: &[u8], one: u8, other: u8) -> u64
+    ensures { λ r. ⌜ Named (now (text .entry)) one other (length (now (text .entry))) r ⌝ }
+{
+    let mut all: u64 = 0;
+    let mut at = 0;
+    while at < text.len() {
+        let bit = bit_behind(text, one, other, at);
+        all = all | bit;
+        at += 1;
+    }
+    all
+}
+
+// The fluents in any need or ban.
+fn decisive(masks: &[u32], actions: usize) -> u32
+    requires { ⌜ Table actions (now masks) ⌝ }
+    ensures { λ r. ⌜ Decisive (now (masks .entry)) actions r ⌝ }
+{
+    let mut all = 0;
+    let mut a = 0;
+    while a < actions {
+        let row = STRIDE * a;
+        let need = masks[row];
+        let ban = masks[row + 1];
+        let both = need | ban;
+        all = all | both;
+        a += 1;
+    }
+    all
+}
+
+// A mask among words.
+fn wide(mask: u32) -> u64
+    ensures { λ r. ⌜ r ≡ mask ⌝ }
+{
+    mask as u64
+}
+
+// What two actions do to the fluents that matter is the same. What an action puts it does not drop: put wins.
+fn same_effects(put: u32, drop: u32, put2: u32, drop2: u32, matter: u64) -> bool
+    ensures { λ r. ⌜ (r ≡ true → (need ban : ℕ) → Alike (others matter) (masksOf need ban put drop) (masksOf need ban put2 drop2)) ⌝ }
+{
+    let dropped = drop & !put;
+    let dropped2 = drop2 & !put2;
+    let puts = put ^ put2;
+    let drops = dropped ^ dropped2;
+    let either = puts | drops;
+    let differ = wide(either);
+    let felt = differ & matter;
+    felt == 0
+}
+
+// Two actions are possible in the same states, and do the same to the fluents that matter.
+fn alike(masks: &[u32], a: usize, b: usize, matter: u64) -> bool
+    requires { ⌜ (stride * a + stride ≤ length (now masks)) × (stride * b + stride ≤ length (now masks)) ⌝ }
+    ensures { λ r. ⌜ (r ≡ true → Alike (others matter) (tableMasks (now (masks .entry)) a) (tableMasks (now (masks .entry)) b)) ⌝ }
+{
+    let one = STRIDE * a;
+    let two = STRIDE * b;
+    let need = masks[one];
+    let need2 = masks[two];
+    if need != need2 {
+        return false;
+    }
+    let ban = masks[one + 1];
+    let ban2 = masks[two + 1];
+    if ban != ban2 {
+        return false;
+    }
+    let put = masks[one + 2];
+    let drop = masks[one + 3];
+    let put2 = masks[two + 2];
+    let drop2 = masks[two + 3];
+    same_effects(put, drop, put2, drop2, matter)
+}
+
+// One of these actions, smaller than b, is like it.
+fn like_smaller(masks: &[u32], these: u64, matter: u64, b: usize) -> bool
+    requires { ⌜ (b < actionLimit) × (stride * b + stride ≤ length (now masks)) ⌝ }
+    ensures { λ r. ⌜ (r ≡ true → Like (now (masks .entry)) these matter b) ⌝ }
+{
+    let mut a = 0;
+    while a < b {
+        let from_a = these >> a;
+        if from_a % 2 == 1 {
+            if alike(masks, a, b, matter) {
+                return true;
+            }
+        }
+        a += 1;
+    }
+    false
+}
+
+// All actions but those that a smaller one stands in for. It is enough to look among the smaller ones that are kept.
+fn sifted(masks: &[u32], actions: usize, unnamed: u64, matter: u64) -> u64
+    requires { ⌜ Table actions (now masks) ⌝ }
+    ensures { λ r. ⌜ Sifted (now (masks .entry)) unnamed (others matter) actions r ⌝ }
+{
+    let mut kept: u64 = !0;
+    let mut b = 0;
+    while b < actions {
+        let from_b = unnamed >> b;
+        if from_b % 2 == 1 {
+            let these = kept & unnamed;
+            if like_smaller(masks, these, matter, b) {
+                let bit: u64 = 1 << b;
+                kept = kept & !bit;
+            }
+        }
+        b += 1;
+    }
+    kept
+}
+
+// Some sign takes any action. Where none does, the job asks for no action that it does not name, and there is nothing to leave out. The answer saves time
+// and decides nothing, so its contract says nothing.
+fn takes_any(job: &[u8]) -> bool {
+    let mut at = 0;
+    while at < job.len() {
+        if job[at] == b'n' {
+            return true;
+        }
+        at += 1;
+    }
+    false
+}
+
+// The actions that are worth trying, bit a for action a.
+pub(crate) fn worth(s: Setting, masks: &[u32], job: &[u8]) -> u64
+    requires { ⌜ Table (s .counts .actions) (now masks) ⌝ }
+    ensures { λ r. ⌜ Worth s (now (masks .entry)) (now (job .entry)) r ⌝ }
+{
+    if !takes_any(job) {
+        return !0;
+    }
+    let counts = s.counts;
+    let actions = counts.actions;
+    let labels = named(job, b'a', b'r');
+    let fluents = named(job, b'f', b'f');
+    let decide = decisive(masks, actions);
+    let tested = wide(decide);
+    let matter = fluents | tested;
+    let unnamed = !labels;
+    sifted(masks, actions, unnamed, matter)
+}

@@ -1,0 +1,35 @@
+-- A stand-in: an action that may take another's place in a log, and no job can tell. Knows masks and what a rule names; no log.
+use mathlib.Core.Path.{_≡_}
+use mathlib.Core.Bool.{true, false, cond}
+use Prim.Native.Nat.{ℕ, _<_}
+use Rattle.laws.specs.Bit.{on}
+use Rattle.meaning.specs.Limits.{fluentLimit}
+use Rattle.meaning.specs.Theory.{Masks}
+use Rattle.meaning.specs.Rule.{Walk, walkNames}
+
+-- 1 for a number that the mask holds, 0 for any other
+abbrev pub among : ℕ → ℕ → ℕ
+among mask i = cond (on mask i) 1 0
+
+-- the walk names no action of the one mask and no fluent of the other, not in its tests either
+abbrev pub NamesNone : ℕ → ℕ → Walk → Type 0
+NamesNone actions fluents x = walkNames (among actions) (among fluents) x ≡ 0
+
+-- these fluents decide about no action: no need and no ban has one of them
+pub record Idle (masks : ℕ → Masks) (fluents : ℕ) : Type 0 where
+  pub needed : (a i : ℕ) → on (masks a .need) i ≡ true → on fluents i ≡ false
+  pub banned : (a i : ℕ) → on (masks a .ban) i ≡ true → on fluents i ≡ false
+
+-- possible in the same states, and but for the idle fluents with the same effects: "put wins", so a fluent that is put may be dropped or not
+pub record Alike (idle : ℕ) (m m′ : Masks) : Type 0 where
+  pub need : m .need ≡ m′ .need
+  pub ban : m .ban ≡ m′ .ban
+  pub put : (i : ℕ) → i < fluentLimit → on idle i ≡ false → on (m .put) i ≡ on (m′ .put) i
+  pub drop : (i : ℕ) → i < fluentLimit → on idle i ≡ false → on (m .put) i ≡ false → on (m .drop) i ≡ on (m′ .drop) i
+
+-- a smaller action a stands in for b: neither is named, and they are alike
+pub record StandsIn (masks : ℕ → Masks) (unnamed idle a b : ℕ) : Type 0 where
+  pub smaller : a < b
+  pub apart : on unnamed a ≡ true
+  pub spared : on unnamed b ≡ true
+  pub alike : Alike idle (masks a) (masks b)
