@@ -7,9 +7,9 @@
  * What a program must see to: pointers are valid and aligned for what they point to; lent memory (output and slots) overlaps nothing else that is passed.
  *
  * What a call may cost.
- *   Time: every call ends; a usual question takes about a microsecond. Two kinds of rule can take far longer, and no call has a bound on its time: `?` nested five
- *         deep or more, and stars nested three deep or more whose bodies have a `?`; and a finish whose run asks for any action (`n`) and comes to no end, which tries up to
- *         `actions` to the power of `more` sequences. docs/BENCHMARKS.md has the times.
+ *   Time: every call ends; a usual question takes about a microsecond, and no verdict or reach more than some milliseconds, whatever its rule. A finish whose run names its labels tries one
+ *         action a step. A run that leaves open which actions come, and says only what has to be on in the end, is searched: up to `actions` to the power of `more` sequences, of those
+ *         actions that matter to it; with more than ten such actions and `more` 6 that is over 10 milliseconds. docs/BENCHMARKS.md has the times.
  *   Stack: measured, less than 33 kilobytes (a text of 255 signs that is refused; an accepted call takes less than 16); no heap.
  *   Threads: nothing is kept between calls, so any number of threads may call at once, each with lent memory of its own.
  *
