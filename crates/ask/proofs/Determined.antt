@@ -20,7 +20,8 @@ use Rattle.meaning.proofs.Refusal.{answered-determined}
 use Rattle.laws.proofs.Truth.{same-truth}
 use Rattle.theory.specs.Subject.{Subject, worldOf}
 use Rattle.refusal.proofs.Numbers.{one-number, some-number}
-use Rattle.ask.specs.Asked.{JobHere, EndTold, AskTold}
+use Rattle.ask.specs.Asked.{EndTold, AskTold}
+use Rattle.ask.specs.Found.{Tabled, WalkHere}
 use Rattle.ask.specs.declared.ReachAnswer.{ReachAnswer}
 use Rattle.ask.specs.declared.ReachAnswer.the-variants.{Refused, Reached}
 use Rattle.ask.specs.declared.VerdictAnswer.{VerdictAnswer}
@@ -83,21 +84,19 @@ module _ (s : Subject) (bytes : List ℕ) (then now : ℕ) where
   pub ask-rises : (kind : Kind) → falls (askRows kind s bytes then now) ≡ []
   ask-rises kind = refl
 
--- What a job has come to, and what it asks for: its text stands there, so two answers are one.
-module _ {s : Subject} {job ends : List ℕ} (here : JobHere (s .masks) (s .log) job ends) where
-  pub ended-determined : (a b : Bool) → EndTold s job a → EndTold s job b → a ≡ b
+-- What a job has come to, and what it asks for: its text stands there, and the rows are those of a log, so two answers are one.
+module _ {job ends rows : List ℕ} {end : ℕ} (here : WalkHere job ends 0) (w : World) (tabled : Tabled w rows end) where
+  pub ended-determined : (a b : Bool) → EndTold job rows end a → EndTold job rows end b → a ≡ b
   ended-determined a b f g =
-      let x = here .stands in
-      let i = f .each (x .walk) (x .stands) in
-      let j = g .each (x .walk) (x .stands) in
+      let i = f .each w tabled (here .walk) (here .stands) in
+      let j = g .each w tabled (here .walk) (here .stands) in
       same-truth a b (λ k. j .1 (i .0 k)) (λ k. i .1 (j .0 k))
 
-  pub asked-determined : {may : ℕ → Bool} (a b : ℕ) → a < 2 ^ actionLimit → b < 2 ^ actionLimit → AskTold may s job a → AskTold may s job b → a ≡ b
+  pub asked-determined : {may : ℕ → Bool} (a b : ℕ) → a < 2 ^ actionLimit → b < 2 ^ actionLimit → AskTold may job rows end a → AskTold may job rows end b → a ≡ b
   asked-determined a b short short′ f g = same-bits a b (λ i. elim (decLt i actionLimit) [
     | yes low ↦
-        let x = here .stands in
-        let u = f .each (x .walk) (x .stands) i low in
-        let v = g .each (x .walk) (x .stands) i low in
+        let u = f .each w tabled (here .walk) (here .stands) i low in
+        let v = g .each w tabled (here .walk) (here .stands) i low in
         same-truth (on a i) (on b i) (λ k. v .1 (u .0 k)) (λ k. u .1 (v .0 k))
     | no high ↦ on-high actionLimit short (omega arith) ∙ sym (on-high actionLimit short′ (omega arith))
   ])

@@ -1,33 +1,27 @@
--- A job over a log as it stands, with now at its end: whether it has come to its end, and which actions it asks for next.
+-- A job over a log as its rows describe it, with now at its end: whether it has come to its end, and which actions it asks for next.
 use mathlib.Core.Path.{_≡_}
 use mathlib.Core.Logic.{_↔_}
 use mathlib.Core.Bool.{Bool, true}
 use mathlib.Core.List.{List}
 use Prim.Native.Nat.{ℕ, _<_}
-use lib.ListN.{length}
 use Rattle.laws.specs.Bit.{on}
 use Rattle.meaning.specs.Limits.{actionLimit}
 use Rattle.meaning.specs.Theory.{World}
 use Rattle.meaning.specs.Rule.{Walk, ofWalk}
 use Rattle.meaning.specs.Leads.{Leads}
 use Rattle.meaning.specs.Asks.{AsksAt}
-use Rattle.theory.specs.Subject.{Subject, Readable, worldOf}
 use Rattle.rule.specs.Standing.{Stands}
 use Rattle.ask.specs.Image.{Set, UpTo}
-use Rattle.ask.specs.Found.{Tabled, WalkHere}
+use Rattle.ask.specs.Found.{Tabled}
 
--- the log can be gone over by this table of masks, and a walk stands at the front of the job's text
-pub record JobHere (masks log job ends : List ℕ) : Type 0 where
-  pub readable : Readable masks log
-  pub stands : WalkHere job ends 0
+-- over the log that the rows describe, with now at its end, the job leads from 0 to the end
+pub record EndTold (job rows : List ℕ) (end : ℕ) (answer : Bool) : Type 0 where
+  pub each : (w : World) → Tabled w rows end → (x : Walk) → Stands job 0 (ofWalk x) → (answer ≡ true) ↔ Leads w x 0 end end
 
--- the job leads from 0 to the log's end
-pub record EndTold (s : Subject) (job : List ℕ) (answer : Bool) : Type 0 where
-  pub each : (x : Walk) → Stands job 0 (ofWalk x) → (answer ≡ true) ↔ Leads (worldOf s) x 0 (length (s .log)) (length (s .log))
-
--- the actions that the job asks for at the log's end by the signs that may, bit a for action a
-pub record AskTold (may : ℕ → Bool) (s : Subject) (job : List ℕ) (asked : ℕ) : Type 0 where
-  pub each : (x : Walk) → Stands job 0 (ofWalk x) → (a : ℕ) → a < actionLimit → (on asked a ≡ true) ↔ AsksAt may (worldOf s) 0 x 0 (length (s .log)) a
+-- the actions that the job asks for there by the signs that may, bit a for action a
+pub record AskTold (may : ℕ → Bool) (job rows : List ℕ) (end asked : ℕ) : Type 0 where
+  pub each : (w : World) → Tabled w rows end → (x : Walk) → Stands job 0 (ofWalk x) → (a : ℕ) → a < actionLimit
+      → (on asked a ≡ true) ↔ AsksAt may w 0 x 0 end a
 
 -- the actions that a walk, whose text begins at a place, asks for at now = n, from some position of a set
 abbrev pub AskedBy : (ℕ → Bool) → World → ℕ → Walk → ℕ → Set → ℕ → Type 0

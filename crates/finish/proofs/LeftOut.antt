@@ -17,7 +17,7 @@ use Rattle.meaning.specs.Lengths.{allows, Reaching, Measured}
 use Rattle.meaning.proofs.AsksAt.{all-ask, next-asked-at}
 use Rattle.laws.proofs.Truth.{off-on, and-iff}
 use Rattle.laws.proofs.Bitwise.{on-and}
-use Rattle.theory.specs.Subject.{Subject, countsOf, worldOf}
+use Rattle.theory.specs.Subject.{Subject, countsOf, tableMasks, worldOf}
 use Rattle.finish.specs.Search.{stands, grown, Allows, Tries}
 use Rattle.finish.specs.Next.{MayCome}
 use Rattle.finish.specs.Found.{Doable, MayBegin}
@@ -67,3 +67,10 @@ asked-next may s x state able asked few e d asks a = (
       (u .0, rw (← e) (u .1), asks a (omega (arith, u .0)) .0 (both .1)),
   λ h. on-and able asked a ∙ and-iff (on able a) (on asked a) .1 (d .each a .1 (h .0, rw e (h .1)), asks a (omega (arith, h .0)) .1 (h .2)),
 )
+
+pub asked-able : (s : Subject) (state able asked : ℕ) → state ≡ stands (worldOf s) → Doable (countsOf s .actions) (s .masks) state able
+    → (a : ℕ) → on (bitAnd able asked) a ≡ true → (a < countsOf s .actions) × Possible (tableMasks (s .masks) a) (stands (worldOf s))
+asked-able s state able asked e d a h =
+    let both = and-iff (on able a) (on asked a) .0 (sym (on-and able asked a) ∙ h) in
+    let u = d .each a .0 (both .0) in
+    (u .0, rw (← e) (u .1))

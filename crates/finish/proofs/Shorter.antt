@@ -1,5 +1,5 @@
 -- The search over the lengths, from 0 up: "shorter before longer". All the mathematics of its loop; knows no code.
-use mathlib.Core.Path.{_≡_, sym, subst, _∙_}
+use mathlib.Core.Path.{_≡_, sym, ap, subst, _∙_}
 use mathlib.Core.Bool.{true, false}
 use mathlib.Core.List.{List}
 use Prim.Native.Nat.{ℕ, _+_, _-_, _≤_, _<_, min}
@@ -8,12 +8,14 @@ use native.Mathlib.Omega.{arith}
 use lib.ListN.{length, take, drop}
 use lib.Seq.{length-take-le}
 use Rattle.meaning.specs.Limits.{logLimit, moreLimit}
-use Rattle.meaning.specs.Theory.{World}
+use Rattle.meaning.specs.Theory.{World, stateAt}
+use Rattle.meaning.proofs.Theory.{state-end}
+use Rattle.theory.specs.Tables.{Describes}
 use Rattle.meaning.specs.Rule.{Walk}
 use Rattle.theory.specs.Subject.{subjectOf, worldOf}
 use Rattle.theory.specs.declared.Setting.{Setting}
 use Rattle.finish.specs.Search.{FirstOf, NoneOf}
-use Rattle.finish.specs.Sound.{JobIs, Node, Ready}
+use Rattle.finish.specs.Sound.{JobIs, Node, Ready, Shown}
 use Rattle.finish.specs.Lengths.{FollowTold, Guided}
 use Rattle.finish.specs.Found.{LengthTold, FinishTold}
 use Rattle.finish.specs.declared.search.Found.the-variants.{At, Nothing}
@@ -70,3 +72,11 @@ pub ready-again : (actions : ℕ) (masks job ends trail now : List ℕ) (n k : �
     → take n now ≡ take n trail → n + k ≤ logLimit → Ready actions masks job ends now n k
 ready-again actions masks job ends trail now n k r long same fits =
     record { node = subst (Node actions masks job ends) (sym same) (r .node); room = long ∙ r .room; fits = fits }
+
+pub shown-again : (s : Setting) (masks trail now rows : List ℕ) (n state : ℕ) → length (take n trail) ≡ n → take n now ≡ take n trail
+    → Describes (worldOf (subjectOf s masks (take n trail))) rows → state ≡ stateAt (worldOf (subjectOf s masks (take n trail))) n
+    → Shown (worldOf (subjectOf s masks (take n now))) rows state
+shown-again s masks trail now rows n state full same described here =
+    let w = worldOf (subjectOf s masks (take n trail)) in
+    subst (λ (l : List ℕ). Shown (worldOf (subjectOf s masks l)) rows state) (sym same)
+    (record { described = described; here = here ∙ ap (stateAt w) (sym full) ∙ state-end w })

@@ -1,10 +1,10 @@
 -- The search on its trail, an arm of the code at a time: the log and what is tried stand in the trail's first n places, and what is found behind them.
 -- All the mathematics of the search's recursion; knows no code.
-use mathlib.Core.Path.{_≡_, refl, sym, ap, subst, _∙_}
+use mathlib.Core.Path.{_≡_, refl, sym, ap, subst, subst⁻¹, _∙_}
 use mathlib.Core.Logic.{_⊎_, inl, inr, _↔_}
 use mathlib.Core.Bool.{Bool, true, false, _&&_, false≢true}
 use mathlib.Core.List.{List, [], _∷_, _++_}
-use Prim.Native.Nat.{ℕ, suc, _+_, _/_, _%_, _^_, _<_}
+use Prim.Native.Nat.{ℕ, suc, _+_, _/_, _%_, _^_, _≤_, _<_}
 use native.Mathlib.Decide.{ℕ-discrete}
 use native.Mathlib.Numerals.{add-one}
 use native.Mathlib.Omega.{arith}
@@ -15,14 +15,20 @@ use borrow.Author.Tests.{eq-eqb, ne-eqb}
 use Rattle.laws.specs.Bit.{on}
 use Rattle.laws.proofs.Truth.{and-iff}
 use Rattle.laws.proofs.Bitwise.{on-and}
-use Rattle.meaning.specs.Theory.{World}
+use Rattle.meaning.specs.Limits.{logLimit}
+use Rattle.meaning.specs.Theory.{World, Possible, Masks, after, run, stateAt}
 use Rattle.meaning.specs.Rule.{Walk}
+use Rattle.meaning.specs.Leads.{Leads}
+use Rattle.meaning.proofs.Theory.{run-append, state-end}
 use Rattle.meaning.specs.Lengths.{allows}
-use Rattle.theory.specs.Subject.{subjectOf, worldOf}
+use Rattle.theory.specs.Subject.{subjectOf, tableMasks, worldOf}
+use Rattle.theory.specs.Tables.{Describes, Toggled}
+use Rattle.theory.proofs.Toggled.{toggled-on, toggled-off}
 use Rattle.theory.specs.declared.Setting.{Setting}
-use Rattle.finish.specs.Search.{Ended, FirstOf, NoneOf, Allows, Tries}
-use Rattle.finish.specs.Sound.{JobIs, Logged, Ready}
+use Rattle.finish.specs.Search.{stands, Ended, FirstOf, NoneOf, Allows, Tries}
+use Rattle.finish.specs.Sound.{JobIs, Logged, Ready, Shown}
 use Rattle.ask.specs.Asked.{EndTold}
+use Rattle.ask.specs.Found.{Tabled}
 use Rattle.finish.specs.Lengths.{Guided}
 use Rattle.finish.specs.Found.{MayBegin, NextTold, OneLength, LengthTold}
 use Rattle.finish.specs.Worth.{Worth}
@@ -54,6 +60,11 @@ neither-on asked worthy a h = go (on asked a) (on worthy a) (sym (on-and asked w
 grown-trail : (trail now : List ℕ) (n a : ℕ) → n < length now → take n now ≡ take n trail → take (n + 1) (set now n a) ≡ take n trail ++ a ∷ []
 grown-trail trail now n a room same = rw (add-one, take-suc-set, same)
 
+-- the state behind one step more
+run-snoc : (masks : ℕ → Masks) (start : ℕ) (l : List ℕ) (a : ℕ) → run masks start (l ++ a ∷ []) ≡ after (masks a) (run masks start l)
+unfolding run
+run-snoc masks start l a = run-append masks start l (a ∷ [])
+
 module _ (s : Setting) (masks job : List ℕ) where
   abbrev At : List ℕ → World
   At log = worldOf (subjectOf s masks log)
@@ -70,10 +81,16 @@ module _ (s : Setting) (masks job : List ℕ) where
   ]
 
   -- a sequence of no action
-  pub leaf-told : (trail : List ℕ) (n : ℕ) (answer : Bool) → EndTold (subjectOf s masks (take n trail)) job answer
-      → LengthTold s masks job trail n 0 trail answer
-  leaf-told trail n answer told = record { kept = refl; each = λ x j. go x answer (told .each x (j .there)) }
+  pub leaf-told : (trail rows : List ℕ) (n : ℕ) (answer : Bool) → length (take n trail) ≡ n → length (take n trail) ≤ logLimit → Describes (At (take n trail)) rows
+      → EndTold job rows n answer → LengthTold s masks job trail n 0 trail answer
+  leaf-told trail rows n answer full short described told = record { kept = refl; each = λ x j. go x answer (whole x (told .each (At (take n trail)) tabled x (j .there))) }
     where
+      tabled : Tabled (At (take n trail)) rows n
+      tabled = record { described = described; logged = omega (arith, full); room = short }
+
+      whole : (x : Walk) → (answer ≡ true) ↔ Leads (At (take n trail)) x 0 n n → (answer ≡ true) ↔ Ended (At (take n trail)) x (take n trail)
+      whole x = subst (λ (e : ℕ). (answer ≡ true) ↔ Leads (At (take n trail)) x 0 e e) (sym full)
+
       go : (x : Walk) (b : Bool) → (b ≡ true) ↔ Ended (At (take n trail)) x (take n trail) → OneLength b 0 (At (take n trail)) x []
       go x true e = first-empty (At (take n trail)) x (e .0 refl)
       go x false e = none-empty (At (take n trail)) x (λ h. false≢true (e .1 h))
@@ -150,6 +167,37 @@ module _ (s : Setting) (masks job : List ℕ) where
       → LengthTold s masks job trail n left now false
   none-told trail now n left k one same passed =
       record { kept = same; each = λ x j. rw one (none-more k (At (take n trail)) x (passed x j)) }
+
+module _ (s : Setting) (masks trail now : List ℕ) (n a behind state : ℕ) (room : n < length now) (same : take n now ≡ take n trail) (full : length (take n trail) ≡ n)
+    (able : Possible (tableMasks masks a) (stands (worldOf (subjectOf s masks (take n trail))))) (here : state ≡ stands (worldOf (subjectOf s masks (take n trail))))
+    (next : behind ≡ after (tableMasks masks a) state) where
+  abbrev old-world : World
+  old-world = worldOf (subjectOf s masks (take n trail))
+
+  stood : stateAt old-world n ≡ stands old-world
+  stood = ap (stateAt old-world) (sym full) ∙ state-end old-world
+
+  can : Possible (tableMasks masks a) (stateAt old-world n)
+  can = subst⁻¹ (Possible (tableMasks masks a)) stood able
+
+  then-state : behind ≡ after (tableMasks masks a) (stateAt old-world n)
+  then-state = next ∙ ap (after (tableMasks masks a)) (here ∙ sym stood)
+
+  -- a step put on the rows, and the state behind it
+  pub shown-more : {rows more : List ℕ} → Describes old-world rows → Toggled rows more a n behind
+      → Shown (worldOf (subjectOf s masks (take (n + 1) (set now n a)))) more behind
+  shown-more {rows} {more} d t =
+      subst (λ (l : List ℕ). Shown (worldOf (subjectOf s masks l)) more behind) (sym (grown-trail trail now n a room same))
+      (record {
+        described = toggled-on old-world a n behind (sym full) can then-state d t;
+        here = next ∙ ap (after (tableMasks masks a)) here ∙ sym (run-snoc (tableMasks masks) (s .start) (take n trail) a);
+      })
+
+  -- and taken off again
+  pub shown-less : {rows fewer : List ℕ} → Describes (worldOf (subjectOf s masks (take (n + 1) (set now n a)))) rows → Toggled rows fewer a n behind → Describes old-world fewer
+  shown-less {rows} {fewer} d t =
+      toggled-off old-world a n behind (sym full) can then-state
+      (subst (λ (l : List ℕ). Describes (worldOf (subjectOf s masks l)) rows) (grown-trail trail now n a room same) d) t
 
 -- there is a place behind the log
 pub place : (actions : ℕ) (masks job ends trail now : List ℕ) (n left : ℕ) → Ready actions masks job ends trail n left → length now ≡ length trail → n < length now

@@ -12,7 +12,8 @@ use Rattle.meaning.specs.Theory.{World, Possible}
 use Rattle.meaning.specs.Rule.{Walk}
 use Rattle.meaning.specs.Asks.{AsksAt}
 use Rattle.meaning.specs.Finish.{First, None}
-use Rattle.theory.specs.Subject.{Subject, subjectOf, tableMasks, worldOf}
+use Rattle.theory.specs.Subject.{Subject, countsOf, subjectOf, tableMasks, worldOf}
+use Rattle.theory.specs.Tables.{Describes}
 use Rattle.theory.specs.declared.Setting.{Setting}
 use Rattle.finish.specs.Search.{stands, FirstOf, NoneOf}
 use Rattle.finish.specs.Sound.{JobIs}
@@ -32,6 +33,7 @@ MayBegin may w x actions =
     (a : ℕ) → (on actions a ≡ true) ↔ ((a < w .actions) × Possible (w .masks a) (stands w) × AsksAt may w 0 x 0 (length (w .log)) a)
 
 pub record NextTold (may : ℕ → Bool) (s : Subject) (job : List ℕ) (actions : ℕ) : Type 0 where
+  pub able : (a : ℕ) → on actions a ≡ true → (a < countsOf s .actions) × Possible (tableMasks (s .masks) a) (stands (worldOf s))
   pub each : (x : Walk) → JobIs job x → MayBegin may (worldOf s) x actions
 
 -- this is the first sequence of k actions that completes the job; there is none
@@ -43,6 +45,10 @@ OneLength false k w x ending = NoneOf k w x
 pub record LengthTold (s : Setting) (masks job trail : List ℕ) (n k : ℕ) (last : List ℕ) (answer : Bool) : Type 0 where
   pub kept : take n last ≡ take n trail
   pub each : (x : Walk) → JobIs job x → OneLength answer k (worldOf (subjectOf s masks (take n trail))) x (take k (drop n last))
+
+-- where none is found the rows are those of the log again
+abbrev pub RowsKept : World → Bool → List ℕ → Type 0
+RowsKept w answer rows = answer ≡ false → Describes w rows
 
 -- and of all lengths up to more
 abbrev pub AllLengths : Found → ℕ → World → Walk → List ℕ → Type 0

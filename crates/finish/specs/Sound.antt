@@ -6,7 +6,8 @@ use Prim.Native.Nat.{ℕ, _+_, _*_, _≤_, _<_}
 use lib.ListN.{length, getD, take}
 use Rattle.meaning.specs.Limits.{actionLimit, logLimit, places, textLimit, moreLimit}
 use Rattle.meaning.specs.Rule.{Walk, ofWalk, backward}
-use Rattle.meaning.specs.Theory.{stride}
+use Rattle.meaning.specs.Theory.{World, run, stride}
+use Rattle.theory.specs.Tables.{Describes}
 use Rattle.rule.specs.Standing.{Stands}
 use Rattle.ask.specs.Found.{WalkHere}
 
@@ -31,6 +32,11 @@ pub record Ready (actions : ℕ) (masks job ends trail : List ℕ) (n left : ℕ
   pub node : Node actions masks job ends (take n trail)
   pub room : length trail ≡ places
   pub fits : n + left ≤ logLimit
+
+-- the rows are those of a world's log, and this is the state behind it
+pub record Shown (w : World) (rows : List ℕ) (state : ℕ) : Type 0 where
+  pub described : Describes w rows
+  pub here : state ≡ run (w .masks) (w .start) (w .log)
 
 -- the job's text is that of this walk, which goes onward only
 pub record JobIs (job : List ℕ) (x : Walk) : Type 0 where

@@ -93,7 +93,7 @@ pub fn next(s: Setting, masks: &[u32], log: &[u8], job: &[u8]) -> NextAnswer
             fill_ends(job, &mut ends);
             // every sign may ask, whatever follows
             let all = [255u8; ENDS_ROOM];
-            NextAnswer::Actions(tries::tries(s, masks, job, &ends, log, &all, 0))
+            NextAnswer::Actions(tries::coming(s, masks, job, &ends, log, &all, 0))
         }
     }
 }

@@ -1,13 +1,13 @@
-// The search: lengths from 0 up, in each depth first in action order, over one trail that grows and shrinks in place. How long the job can be behind each of its signs is
+// The search: lengths from 0 up, in each depth first in action order, over one trail and the rows of its log, which grow and shrink in place. How long the job can be behind each of its signs is
 // found once, where it is not finished as it stands.
 ghost use mathlib.Core.Path.{_≡_};
 ghost use Prim.Native.Nat.{_-_, _≤_, min};
 ghost use lib.ListN.{length, take};
 ghost use Rattle.meaning.specs.Limits.{logLimit, moreLimit, textLimit};
-ghost use Rattle.theory.specs.Subject.{subjectOf};
-ghost use Rattle.finish.specs.Sound.{Ready};
+ghost use Rattle.theory.specs.Subject.{subjectOf, worldOf};
+ghost use Rattle.finish.specs.Sound.{Ready, Shown};
 ghost use Rattle.finish.specs.Lengths.{Guided};
-ghost use Rattle.finish.specs.Found.{LengthTold, FinishTold};
+ghost use Rattle.finish.specs.Found.{LengthTold, RowsKept, FinishTold};
 ghost use Rattle.finish.specs.Worth.{Worth};
 use crate::follow::fill;
 use crate::standins::worth;
@@ -16,6 +16,11 @@ use ask::job;
 use positions::PositionSet;
 use rule::ends::ENDS_ROOM;
 use theory::Setting;
+use theory::log;
+use theory::step;
+use theory::tables::ROWS;
+use theory::tables::toggle;
+use theory::tables::transpose;
 
 // How many actions the first finishing sequence has.
 pub enum Found {
@@ -31,19 +36,21 @@ fn complete(
     ends: &[u8; ENDS_ROOM],
     follow: &[u8; ENDS_ROOM],
     trail: &mut [u8],
+    rows: &mut [u64; ROWS],
     n: usize,
     left: usize,
+    state: u32,
     worthy: u64,
 ) -> bool
-    requires { ⌜ Ready (s .counts .actions) (now masks) (now job) (now ends) (now trail) n left × Guided (subjectOf s (now masks) (take n (now trail))) (now job) (now follow) left × Worth s (now masks) (now job) worthy ⌝ }
-    ensures { λ r. ⌜ LengthTold s (now (masks .entry)) (now (job .entry)) (now (trail .entry)) n left (now (trail .exit)) r ⌝ }
+    requires { ⌜ Ready (s .counts .actions) (now masks) (now job) (now ends) (now trail) n left × Guided (subjectOf s (now masks) (take n (now trail))) (now job) (now follow) left × Worth s (now masks) (now job) worthy × Shown (worldOf (subjectOf s (now masks) (take n (now trail)))) (now rows) state ⌝ }
+    ensures { λ r. ⌜ LengthTold s (now (masks .entry)) (now (job .entry)) (now (trail .entry)) n left (now (trail .exit)) r × RowsKept (worldOf (subjectOf s (now (masks .entry)) (take n (now (trail .entry))))) r (now (rows .exit)) ⌝ }
 {
     if left == 0 {
-        return job::ended(s, masks, &trail[..n], job, ends);
+        return job::ended(job, ends, rows, n);
     }
     let rest = left - 1;
     let next = n + 1;
-    let asked = tries(s, masks, job, ends, &trail[..n], follow, rest);
+    let asked = tries(s, masks, job, ends, &trail[..n], rows, state, follow, rest);
     let tried = asked & worthy;
     let counts = s.counts;
     let actions = counts.actions;
@@ -52,9 +59,24 @@ fn complete(
         let from_a = tried >> a;
         if from_a % 2 == 1 {
             trail[n] = a as u8;
-            if complete(s, masks, job, ends, follow, trail, next, rest, worthy) {
+            let behind = step::act(masks, a, state);
+            toggle(rows, a, n, behind);
+            if complete(
+                s,
+                masks,
+                job,
+                ends,
+                follow,
+                trail,
+                rows,
+                next,
+                rest,
+                behind,
+                worthy,
+            ) {
                 return true;
             }
+            toggle(rows, a, n, behind);
         }
         a += 1;
     }
@@ -83,7 +105,9 @@ pub(crate) fn first(
     requires { ⌜ Ready (s .counts .actions) (now masks) (now job) (now ends) (now trail) n 0 × (length (now job) ≤ textLimit) × (more ≤ moreLimit) ⌝ }
     ensures { λ r. ⌜ FinishTold s (now (masks .entry)) (now (job .entry)) (now (trail .entry)) n more (now (trail .exit)) r ⌝ }
 {
-    if job::ended(s, masks, &trail[..n], job, ends) {
+    let mut rows = [0u64; ROWS];
+    transpose(s, masks, &trail[..n], &mut rows);
+    if job::ended(job, ends, &rows, n) {
         return Found::At(0);
     }
     let most = longest(n, more);
@@ -93,9 +117,22 @@ pub(crate) fn first(
     let worthy = worth(s, masks, job);
     let mut follow = [0u8; ENDS_ROOM];
     fill(s, masks, job, ends, &trail[..n], &mut follow);
+    let state = log::state_at(s, masks, &trail[..n], n);
     let mut k = 1;
     while k <= most {
-        if complete(s, masks, job, ends, &follow, trail, n, k, worthy) {
+        if complete(
+            s,
+            masks,
+            job,
+            ends,
+            &follow,
+            trail,
+            &mut rows,
+            n,
+            k,
+            state,
+            worthy,
+        ) {
             return Found::At(k);
         }
         k += 1;

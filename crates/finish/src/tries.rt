@@ -1,13 +1,15 @@
 // Which actions may come next: one answer, a word with bit a for action a.
 ghost use Rattle.meaning.specs.Lengths.{allows};
-ghost use Rattle.theory.specs.Subject.{subjectOf};
-ghost use Rattle.finish.specs.Sound.{Table, Node};
+ghost use Rattle.theory.specs.Subject.{subjectOf, worldOf};
+ghost use Rattle.finish.specs.Sound.{Table, Node, Shown};
 ghost use Rattle.finish.specs.Found.{Doable, NextTold};
 use ask::job;
 use rule::ends::ENDS_ROOM;
 use theory::Setting;
 use theory::log;
 use theory::step;
+use theory::tables::ROWS;
+use theory::tables::transpose;
 
 // The actions that are possible in this state.
 fn doable(actions: usize, masks: &[u32], state: u32) -> u64
@@ -26,9 +28,31 @@ fn doable(actions: usize, masks: &[u32], state: u32) -> u64
     asked
 }
 
-// The actions that may come next, with so many to follow: those that are possible and that the job asks for. No other could begin a rest of that length that finishes
-// the job.
+// The actions that may come next, with so many to follow: those that are possible in the state behind the log and that the job asks for there. No other could begin a rest of that length that
+// finishes the job. The log is what the rows describe.
 pub(crate) fn tries(
+    s: Setting,
+    masks: &[u32],
+    job: &[u8],
+    ends: &[u8; ENDS_ROOM],
+    log: &[u8],
+    rows: &[u64; ROWS],
+    state: u32,
+    follow: &[u8; ENDS_ROOM],
+    left: usize,
+) -> u64
+    requires { ⌜ Node (s .counts .actions) (now masks) (now job) (now ends) (now log) × Shown (worldOf (subjectOf s (now masks) (now log))) (now rows) state ⌝ }
+    ensures { λ r. ⌜ NextTold (allows (now (follow .entry)) left) (subjectOf s (now (masks .entry)) (now (log .entry))) (now (job .entry)) r ⌝ }
+{
+    let end = log.len();
+    let asked = job::asked(job, ends, rows, end, follow, left);
+    let counts = s.counts;
+    let able = doable(counts.actions, masks, state);
+    able & asked
+}
+
+// The same over a log whose rows are still to be made.
+pub(crate) fn coming(
     s: Setting,
     masks: &[u32],
     job: &[u8],
@@ -40,10 +64,9 @@ pub(crate) fn tries(
     requires { ⌜ Node (s .counts .actions) (now masks) (now job) (now ends) (now log) ⌝ }
     ensures { λ r. ⌜ NextTold (allows (now (follow .entry)) left) (subjectOf s (now (masks .entry)) (now (log .entry))) (now (job .entry)) r ⌝ }
 {
-    let asked = job::asked(s, masks, log, job, ends, follow, left);
+    let mut rows = [0u64; ROWS];
+    transpose(s, masks, log, &mut rows);
     let end = log.len();
     let state = log::state_at(s, masks, log, end);
-    let counts = s.counts;
-    let able = doable(counts.actions, masks, state);
-    able & asked
+    tries(s, masks, job, ends, log, &rows, state, follow, left)
 }

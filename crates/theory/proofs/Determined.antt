@@ -23,7 +23,7 @@ use Rattle.theory.specs.Possible
 use Rattle.theory.specs.Possible.{verdictGiven, possibleRows, PossibleAnswered}
 use Rattle.theory.specs.Check.{Settled}
 use Rattle.theory.specs.Union.{Union}
-use Rattle.theory.specs.Tables.{actionRows, fluentRows, possibleRow, rowCount, rowHolds, amongHolds, actionHolds, fluentHolds, Describes, Noted, Reversed}
+use Rattle.theory.specs.Tables.{actionRows, fluentRows, possibleRow, rowCount, rowHolds, amongHolds, actionHolds, fluentHolds, Describes, Noted, Reversed, Toggled}
 use Rattle.theory.specs.declared.Check.{Check}
 use Rattle.theory.specs.declared.Check.the-variants.{Sound, Refused as Faulty}
 use Rattle.theory.specs.declared.PossibleAnswer.{PossibleAnswer}
@@ -128,6 +128,9 @@ pub note-determined : (old new new′ : List ℕ) (a p : ℕ) (able : Bool) → 
 note-determined old new new′ a p able x y =
     same-table new new′ (x .room ∙ sym (y .room)) (λ r q h. Iff·trans (x .bits r q) (Iff·symm (y .bits r q)))
 
+equal : {a b : Bool} → a ≡ b → (a ≡ true) ↔ (b ≡ true)
+equal e = (λ h. sym e ∙ h, λ h. e ∙ h)
+
 pub turn-determined : (old new new′ : List ℕ) (changed places : ℕ) → length old ≡ rowCount → Reversed old new changed places → Reversed old new′ changed places → new ≡ new′
 turn-determined old new new′ changed places room x y =
     same-rows new new′ (x .room ∙ room) (y .room ∙ room)
@@ -135,11 +138,15 @@ turn-determined old new new′ changed places room x y =
     (λ i q. equal (x .shown i q ∙ sym (y .shown i q)))
     (λ q. equal (x .others possibleRow q (inr (omega arith)) ∙ sym (y .others possibleRow q (inr (omega arith)))))
   where
-    equal : {a b : Bool} → a ≡ b → (a ≡ true) ↔ (b ≡ true)
-    equal e = (λ h. sym e ∙ h, λ h. e ∙ h)
-
     both : (a q : ℕ) → (a < fluentRows → rowHolds new (actionRows + a) q ≡ rowHolds new′ (actionRows + a) q) → (actionHolds new a q ≡ true) ↔ (actionHolds new′ a q ≡ true)
     both a q same = (
       λ h. let u = among new actionRows actionLimit a q .0 h in among new′ actionRows actionLimit a q .1 (u .0, sym (same (u .0)) ∙ u .1),
       λ h. let u = among new′ actionRows actionLimit a q .0 h in among new actionRows actionLimit a q .1 (u .0, same (u .0) ∙ u .1),
     )
+
+pub toggle-determined : (old new new′ : List ℕ) (a p behind : ℕ) → length old ≡ rowCount → Toggled old new a p behind → Toggled old new′ a p behind → new ≡ new′
+toggle-determined old new new′ a p behind room x y =
+    same-rows new new′ (x .room ∙ room) (y .room ∙ room)
+    (λ b q. equal (x .taken b q ∙ sym (y .taken b q)))
+    (λ i q. equal (x .shown i q ∙ sym (y .shown i q)))
+    (λ q. equal (x .possible q ∙ sym (y .possible q)))

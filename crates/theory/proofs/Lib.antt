@@ -4,4 +4,5 @@ pub mod Reading
 pub mod Determined
 pub mod Marks
 pub mod Transposed
+pub mod Toggled
 pub mod Any

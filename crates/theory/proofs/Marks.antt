@@ -16,9 +16,9 @@ use Rattle.laws.specs.Bit.{on}
 use Rattle.laws.proofs.On.{on-shr, on-none}
 use Rattle.laws.proofs.Bitwise.{on-or, on-xor}
 use Rattle.laws.proofs.Shift.{on-shl, on-one-shl, on-ones}
-use Rattle.laws.proofs.Truth.{same-truth, no-truth, and-iff, or-iff}
+use Rattle.laws.proofs.Truth.{same-truth, no-truth, off-on, true-or-false, and-iff, or-iff}
 use Rattle.meaning.specs.Limits.{places, logLimit, fluentLimit, actionLimit}
-use Rattle.theory.specs.Tables.{actionRows, fluentRows, possibleRow, rowCount, rowHolds, amongHolds, fluentHolds, Noted, Reversed}
+use Rattle.theory.specs.Tables.{actionRows, fluentRows, possibleRow, rowCount, rowHolds, amongHolds, fluentHolds, Noted, Reversed, Toggled}
 
 -- rows that hold nothing
 zeros : (n r : ℕ) → _≡_ {A = ℕ} (getD (replicate n 0) r 0) 0
@@ -207,3 +207,68 @@ turn-more {old} {new} changed rest {at} {i} size low t =
 -- every fluent that changed is turned
 pub turn-all : {old new : List ℕ} {changed rest at : ℕ} → rest ≡ 0 → Reversed old new (bitXor changed rest) at → Reversed old new changed at
 turn-all {old} {new} {changed} {rest} {at} none t = subst (λ (n : ℕ). Reversed old new n at) (ap (bitXor changed) none ∙ xor-zero-r changed) t
+
+-- a number past the rows has none, before and after
+no-row : (l x y e z : Bool) → l ≡ false → e ≡ false → (l && x) ≡ xor (l && y) (e && z)
+no-row l x y e z h g = rw (h, g) (sym (with-none false))
+
+-- Two rows the other way at one position, then the fluents of a state at the next: a step at the end is put on the rows, or taken off.
+module _ (old : List ℕ) (a p behind : ℕ) (size : length old ≡ rowCount) (low : a < actionLimit) (short : p < logLimit) where
+  abbrev bit : ℕ
+  bit = 1 * 2 ^ p % 2 ^ places
+
+  abbrev first : List ℕ
+  first = turned old (actionRows + a) bit
+
+  abbrev pub toggled-rows : List ℕ
+  toggled-rows = turned (turned old (actionRows + a) (1 * 2 ^ p % 2 ^ places)) possibleRow (1 * 2 ^ p % 2 ^ places)
+
+  first-size : length first ≡ rowCount
+  first-size = length-set old (actionRows + a) (bitXor (getD old (actionRows + a) 0) bit) ∙ size
+
+  toggled-size : length toggled-rows ≡ rowCount
+  toggled-size = length-set first possibleRow (bitXor (getD first possibleRow 0) bit) ∙ first-size
+
+  own-row : (b q : ℕ) → b < actionLimit → rowHolds toggled-rows (actionRows + b) q ≡ xor (rowHolds old (actionRows + b) q) (eqb b a && eqb q p)
+  own-row b q h =
+      row-other first possibleRow bit (actionRows + b) q (λ e. omega arith)
+      ∙ elim (ℕ-discrete b a) [
+        | no other ↦
+            row-other old (actionRows + a) bit (actionRows + b) q (λ e. other (omega arith))
+            ∙ rw (no-truth (eqb b a) (λ e. other (eqb-true b a e))) (sym (with-none (rowHolds old (actionRows + b) q)))
+        | yes e ↦
+            subst⁻¹
+            (λ (x : ℕ). rowHolds first (actionRows + x) q ≡ xor (rowHolds old (actionRows + x) q) (eqb x a && eqb q p))
+            e
+            (row-turned old (actionRows + a) bit q (omega arith) ∙ rw (on-one-shl p places q (omega arith), eq-eqb a a refl))
+      ]
+
+  still : (i q : ℕ) → fluentHolds toggled-rows i q ≡ fluentHolds old i q
+  still i q =
+      ⊎-elim
+      (λ h.
+      let there : i < fluentLimit = ltb-true i fluentLimit h in
+      rw (
+        row-other first possibleRow bit (fluentRows + i) q (λ e. omega arith),
+        row-other old (actionRows + a) bit (fluentRows + i) q (λ e. omega arith),
+      ))
+      (λ h. rw h)
+      (true-or-false (ltb i fluentLimit))
+
+  pub toggled : {new : List ℕ} → Reversed toggled-rows new behind (1 * 2 ^ (p + 1) % 2 ^ places) → Toggled old new a p behind
+  toggled {new} t =
+      record {
+        room = t .room ∙ toggled-size ∙ sym size;
+        taken = λ b q.
+            ⊎-elim
+            (λ h. let there : b < actionLimit = ltb-true b actionLimit h in rw h (t .others (actionRows + b) q (inl (omega arith)) ∙ own-row b q there))
+            (λ h. no-row (ltb b actionLimit) _ _ (eqb b a) _ h (no-truth (eqb b a) (λ e. off-on h (lt-ltb b actionLimit (omega (arith, eqb-true b a e))))))
+            (true-or-false (ltb b actionLimit));
+        shown = λ i q.
+            t .shown i q
+            ∙ rw (on-one-shl (p + 1) places q (omega arith), still i q);
+        possible = λ q.
+            t .others possibleRow q (inr (omega arith))
+            ∙ row-turned first possibleRow bit q (omega (arith, first-size))
+            ∙ rw (on-one-shl p places q (omega arith), row-other old (actionRows + a) bit possibleRow q (λ e. omega arith));
+      }

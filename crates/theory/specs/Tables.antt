@@ -6,7 +6,7 @@ use mathlib.Core.Bool.{Bool, true, _&&_, xor}
 use mathlib.Core.List.{List}
 use mathlib.Core.Option.{some}
 use Prim.Native.Nat.{ℕ, _+_, _≤_, _<_}
-use lib.Dec.{ltb}
+use lib.Dec.{ltb, eqb}
 use lib.ListN.{length, getD}
 use Rattle.laws.specs.Bit.{on}
 use Rattle.meaning.specs.Limits.{fluentLimit, actionLimit}
@@ -63,3 +63,10 @@ pub record Reversed (old new : List ℕ) (changed places : ℕ) : Type 0 where
   pub room : length new ≡ length old
   pub shown : (i q : ℕ) → fluentHolds new i q ≡ xor (fluentHolds old i q) (on places q && on changed i)
   pub others : (r q : ℕ) → (r < fluentRows) ⊎ (possibleRow ≤ r) → rowHolds new r q ≡ rowHolds old r q
+
+-- A possible step at the end of the log, action a at position p with this state behind it, was put on the rows, or taken off again: its bits are the other way.
+pub record Toggled (old new : List ℕ) (a p behind : ℕ) : Type 0 where
+  pub room : length new ≡ length old
+  pub taken : (b q : ℕ) → actionHolds new b q ≡ xor (actionHolds old b q) (eqb b a && eqb q p)
+  pub shown : (i q : ℕ) → fluentHolds new i q ≡ xor (fluentHolds old i q) (eqb q (p + 1) && on behind i)
+  pub possible : (q : ℕ) → rowHolds new possibleRow q ≡ xor (rowHolds old possibleRow q) (eqb q p)

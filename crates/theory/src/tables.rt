@@ -6,9 +6,9 @@ ghost use Prim.Native.Nat.{ℕ, _≤_, _<_};
 ghost use lib.Dec.{leb};
 ghost use lib.ListN.{length};
 ghost use Rattle.laws.specs.Bit.{on};
-ghost use Rattle.meaning.specs.Limits.{actionLimit, places};
+ghost use Rattle.meaning.specs.Limits.{actionLimit, logLimit, places};
 ghost use Rattle.theory.specs.Subject.{Readable, subjectOf, worldOf};
-ghost use Rattle.theory.specs.Tables.{rowCount, Describes, Noted, Reversed};
+ghost use Rattle.theory.specs.Tables.{rowCount, Describes, Noted, Reversed, Toggled};
 use crate::ACTION_LIMIT;
 use crate::FLUENT_LIMIT;
 use crate::Setting;
@@ -90,4 +90,21 @@ pub fn transpose(s: Setting, masks: &[u32], log: &[u8], rows: &mut [u64; ROWS])
         turn(rows, changed, rest);
         state = next;
     }
+}
+
+// A possible step at the log's end, action a at position p with this state behind it: put on the rows or, where it stands there, taken off again. Who
+// tries one log after another keeps its rows so, instead of making them afresh.
+pub fn toggle(rows: &mut [u64; ROWS], a: usize, p: usize, behind: u32)
+    requires { ⌜ (length (now rows) ≡ rowCount) × (a < actionLimit) × (p < logLimit) ⌝ }
+    ensures { λ _. ⌜ Toggled (now (rows .entry)) (now (rows .exit)) a p behind ⌝ }
+{
+    let bit = 1u64 << p;
+    let row = ACTION_ROWS + a;
+    let taken = rows[row];
+    rows[row] = taken ^ bit;
+    let possible = rows[POSSIBLE_ROW];
+    rows[POSSIBLE_ROW] = possible ^ bit;
+    let next = p + 1;
+    let there = 1u64 << next;
+    turn(rows, behind, there);
 }

@@ -49,8 +49,8 @@ passed c = subst (Checked (start (c .before .before))) (c .enum-told .given .1) 
 job : (c : tie.After-enum-told) → Job (now (start (c .before .before) .args .job))
 job c = let s = start (c .before .before) in job-passed (subject s) (now (s .args .job)) (passed c)
 
-tries-requires : tie.Need-tries-requires
-tries-requires c κs =
+coming-requires : tie.Need-coming-requires
+coming-requires c κs =
     let t = told (c .before) in
     let s = start (t .before .before) in
     let marked = c .before .before .before .fill-ends in
@@ -70,10 +70,10 @@ returns-2 c =
     inr (record {
       none = refl;
       accepted = passed t;
-      right = record { walk = job t .walk; spells = job t .spells; told = begin-come _ _ (job t .walk) _ (all-allowed _ (job t .walk) (job t .short) (job-is (job t) .there)) (c .tries .ensures .each (job t .walk) (job-is (job t))) };
+      right = record { walk = job t .walk; spells = job t .spells; told = begin-come _ _ (job t .walk) _ (all-allowed _ (job t .walk) (job t .short) (job-is (job t) .there)) (c .coming .ensures .each (job t .walk) (job-is (job t))) };
     })
 
 pub next-spec : {M : Type 1} → statement M
 next-spec =
     tie.close
-    (tie.spec check-job-requires enum-known-r enum-told slice-aggregate-fill-ends fill-ends-requires tries-requires returns returns-2)
+    (tie.spec check-job-requires enum-known-r enum-told slice-aggregate-fill-ends fill-ends-requires coming-requires returns returns-2)

@@ -4,13 +4,6 @@ use Rattle.ask.proofs.Jobs.{ended-right}
 use Rattle.ask.proofs.job.ended.Statement.{statement}
 use Rattle.ask.proofs.job.ended.Tie as tie
 
--- the call, from where the rows are made
-abbrev entry : tie.After-rows → tie.Start
-entry c = c .before .before .before .before
-
-transpose-requires : tie.Need-transpose-requires
-transpose-requires c κs = entry c .pre .readable
-
 at-requires : tie.Need-at-requires
 at-requires c κs = search needs
 
@@ -21,16 +14,7 @@ has-requires : tie.Need-has-requires
 has-requires c κs = search needs
 
 returns : tie.Need-returns
-returns c =
-    let tables = c .before .before .before .before in
-    ended-right (entry (tables .before) .pre) (tables .transpose .ensures) (c .before .before .before .at .ensures) (c .before .walk .ensures) (c .has .result) (c .has .ensures)
+returns c = ended-right (c .before .before .at .ensures) (c .before .walk .ensures) (c .has .result) (c .has .ensures)
 
 pub ended-spec : {M : Type 1} → statement M
-ended-spec =
-    tie.close
-    (tie.spec
-    transpose-requires
-    at-requires
-    walk-requires
-    has-requires
-    returns)
+ended-spec = tie.close (tie.spec at-requires walk-requires has-requires returns)
