@@ -12,62 +12,37 @@ use positions::PositionSet;
 use rule::ends::ENDS_ROOM;
 use theory::tables::ROWS;
 
-// Two of the signs `*` and `?` stand in the text: a quick look at the bytes, since in most rules they do not.
-fn twice(text: &[u8]) -> bool {
-    let mut once = false;
-    let mut i = 0;
-    while i < text.len() {
-        let sign = text[i];
-        if sign == b'*' || sign == b'?' {
-            if once {
-                return true;
-            }
-            once = true;
-        }
-        i += 1;
-    }
-    false
+// Where the rule at a place ends.
+fn end_of(ends: &[u8; ENDS_ROOM], at: usize) -> usize {
+    if at < ENDS_ROOM { wide(ends[at]) } else { 0 }
 }
 
-// A star is inside a star, and not right behind it, or a `?` is inside a star or inside the test of a `?`. Otherwise no sign is met twice with the same ground.
-fn nested(text: &[u8], ends: &[u8; ENDS_ROOM]) -> bool {
-    let mut run = false;
+// Whether slots are worth lending: a star is inside a star, and not right behind it, or a `?` is inside a star or inside the test of a `?`. Otherwise no sign is met twice with the same ground.
+// An answer is right with slots and without.
+fn keeps(text: &[u8], ends: &[u8; ENDS_ROOM]) -> bool {
     let mut star_end = 0;
     let mut ask_end = 0;
+    let mut behind_star = 0;
     let mut i = 0;
     while i < text.len() {
-        if ENDS_ROOM <= i {
-            return true;
-        }
-        let end = wide(ends[i]);
         let sign = text[i];
-        let star = sign == b'*';
-        if star {
+        if sign == b'*' {
             if star_end <= i {
-                star_end = end;
-            } else if !run {
+                star_end = end_of(ends, i);
+            } else if behind_star != i {
                 return true;
             }
-        }
-        if sign == b'?' {
+            behind_star = i + 1;
+        } else if sign == b'?' {
             if i < star_end {
                 return true;
             }
             if i < ask_end {
                 return true;
             }
-            ask_end = end;
+            ask_end = end_of(ends, i);
         }
-        run = star;
         i += 1;
-    }
-    false
-}
-
-// Whether slots are worth lending. An answer is right with slots and without.
-fn keeps(text: &[u8], ends: &[u8; ENDS_ROOM]) -> bool {
-    if twice(text) {
-        return nested(text, ends);
     }
     false
 }
