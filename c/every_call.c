@@ -100,17 +100,37 @@ static void tallies(const struct wyh_job *job) {
     told("happened 3", wyh_tally_happened(job, &tally, 3, &yes));
 }
 
+/* Variables: three actions, and as many values. Some action, twice; the same one twice; what may come next; the converse. */
+static void variables(const struct wyh_job *job) {
+    struct wyh_job some = *job;
+    some.domain = 3;
+    reach(&some, "pvpw;b00vb00w", 0);
+    reach(&some, "pv;b00vb00v", 0);
+    next(&some, ";*npvb00v");
+    finish(&some, ";*npv;b00vb00v", 2);
+    normal(&some, "-pv;b00va01", WYH_RULE_ROOM);
+    reach(&some, "pvb00w", 0);
+    reach(&some, "pvb01v", 0);
+    reach(job, "pvb00v", 0);
+    some.domain = 2;
+    verdict(&some, "evg00v");
+    some.domain = 17;
+    verdict(&some, "1");
+}
+
 static void read_sheet(const char *text) {
     uint32_t masks[WYH_MASKS_ROOM];
     uint8_t log[WYH_LOG_ROOM];
     struct wyh_sheet sheet;
-    uint8_t refused = wyh_job_read_sheet(bytes(text), strlen(text), masks, log, &sheet);
+    uint8_t yes, refused = wyh_job_read_sheet(bytes(text), strlen(text), masks, log, &sheet);
     told("read_sheet", refused);
-    printf("  line %lu, %lu fluents, %lu actions, %lu masks, %lu steps\n", (unsigned long)sheet.line, (unsigned long)sheet.job.fluents,
-           (unsigned long)sheet.job.actions, (unsigned long)sheet.job.masks_len, (unsigned long)sheet.job.log_len);
+    printf("  line %lu, %lu fluents, %lu actions, domain %lu, %lu masks, %lu steps\n", (unsigned long)sheet.line, (unsigned long)sheet.job.fluents,
+           (unsigned long)sheet.job.actions, (unsigned long)sheet.job.domain, (unsigned long)sheet.job.masks_len, (unsigned long)sheet.job.log_len);
     printf("  ask \"%.*s\", run \"%.*s\", more %lu\n", (int)sheet.ask_len, (const char *)(sheet.ask ? sheet.ask : bytes("")), (int)sheet.run_len,
            (const char *)(sheet.run ? sheet.run : bytes("")), (unsigned long)sheet.more);
     if (refused) return;
+    told("its ask", wyh_job_verdict(&sheet.job, sheet.ask, sheet.ask_len, sheet.job.log_len, sheet.job.log_len, &yes));
+    printf("  %s\n", yes ? "yes" : "no");
     finish(&sheet.job, ";a00;a01;a02;a00a01", sheet.more);
 }
 
@@ -146,6 +166,10 @@ static const char *const sheet =
     "sheet=1\nfluents=02\nactions=03\nstart=00000000\nact=00000000,00000000,00000001,00000000\nact=00000001,00000000,00000002,00000000\n"
     "act=00000000,00000000,00000000,00000003\nlog=00010200\nask=<-;a00*n!<;*na011\nrun=;a00;a01;a02;a00a01\nmore=2\n";
 
+static const char *const sheet_2 =
+    "sheet=2\nfluents=02\nactions=03\ndomain=02\nstart=00000000\nact=00000000,00000000,00000001,00000000\nact=00000001,00000000,00000002,00000000\n"
+    "act=00000000,00000000,00000000,00000003\nlog=00010200\nask=evg00v\nrun=;*n?!ev!g00v\nmore=2\n";
+
 int main(void) {
     const uint32_t masks[12] = {0, 0, 1, 0, 1, 0, 2, 0, 0, 0, 0, 3};
     const uint8_t log[4] = {0, 1, 2, 0};
@@ -178,11 +202,14 @@ int main(void) {
     read_rule(&job, WYH_RUN, "u");
     normal(&job, "-;a00*n", WYH_RULE_ROOM);
     normal(&job, "-;a00*n", 5);
+    variables(&job);
     tallies(&job);
     nothing(&job);
     read_sheet(sheet);
+    read_sheet(sheet_2);
     read_sheet("sheet=0\n");
     answer(sheet);
+    answer(sheet_2);
     answer("sheet=0\n");
     return 0;
 }

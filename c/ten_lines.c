@@ -5,10 +5,11 @@
 int main(void) {
     const uint32_t masks[8] = {0, 0, 1, 0, 1, 0, 2, 0};
     const uint8_t log[1] = {0};
-    const struct wyh_job job = {2, 2, 0, masks, 8, log, 1};
-    uint8_t yes, left[WYH_FINISH_ROOM];
+    struct wyh_job job = WYH_JOB_EMPTY;
+    uint8_t refused, yes, left[WYH_FINISH_ROOM];
     size_t count;
-    uint8_t refused = wyh_job_verdict(&job, (const uint8_t *)"f00", 3, 1, 1, &yes);
+    job.fluents = job.actions = 2, job.masks = masks, job.masks_len = 8, job.log = log, job.log_len = 1;
+    refused = wyh_job_verdict(&job, (const uint8_t *)"f00", 3, 1, 1, &yes);
     printf("label 1 is out: refusal %d, yes %d\n", refused, yes);
     refused = wyh_job_finish(&job, (const uint8_t *)";a00a01", 7, 6, left, sizeof left, &count);
     printf("left to print: refusal %d, count %d, first %d\n", refused, (int)count, left[0]);

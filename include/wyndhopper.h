@@ -1,21 +1,23 @@
 /* Wyndhopper: the order of labels within a job, settled by the rule on the job's sheet.
  *
  * Each call takes every input and returns the number of its refusal, 0 for none (WYH_REFUSED_.. below; docs/REFUSALS.md says what to look for). Where several
- * numbers apply the smallest is given, except that 12 comes before 11. Slots for single answers are always written, on a refusal with the values named here;
- * lent output keeps every byte then, and behind what is written otherwise.
+ * numbers apply the smallest is given, except that 13 comes before 10, and 12 before 11. Slots for single answers are always written, on a refusal with the values named
+ * here; lent output keeps every byte then, and behind what is written otherwise.
  *
  * What a program must see to: pointers are valid and aligned for what they point to; lent memory (output and slots) overlaps nothing else that is passed.
  *
  * What a call may cost.
- *   Time: every call ends; a usual question takes about a microsecond, and no verdict or reach more than some milliseconds, whatever its rule. A finish whose run names its labels tries one
- *         action a step. A run that leaves open which actions come, and says only what has to be on in the end, is searched: up to `actions` to the power of `more` sequences, of those
- *         actions that matter to it; with more than ten such actions and `more` 6 that is over 10 milliseconds. docs/BENCHMARKS.md has the times.
+ *   Time: every call ends; a usual question takes about a microsecond, and no verdict or reach of a rule without variables more than some milliseconds. A binder goes over its part once for
+ *         each value, so binders nested k deep can take the domain to the power of k times as long as their part alone. A finish whose run names its labels tries one action a step. A run that
+ *         leaves open which actions come, and says only what has to be on in the end, is searched: up to `actions` to the power of `more` sequences, of those actions that matter to it; with
+ *         more than ten such actions and `more` 6 that is over 10 milliseconds. docs/BENCHMARKS.md has the times.
  *   Stack: measured, less than 28 kilobytes (a text of 255 signs that is refused; an accepted call takes less than 16); no heap.
  *   Threads: nothing is kept between calls, so any number of threads may call at once, each with lent memory of its own.
  *
  * A job is a theory and a log. The theory: `fluents` (0 to 32), `actions` (1 to 64), the start state, and a mask table of four masks an action, need, ban, put, drop,
  * in order of action number: masks_len is 4 * actions. The log: 0 to 63 bytes, one action each; steps that were not possible are accepted. A rule is 1 to 255 bytes
- * of text (docs/LANGUAGE.md).
+ * of text (docs/LANGUAGE.md). The domain, 1 to 16, is how many values a variable in a rule has, from 0 on; with domain 0 a rule has no variables. Calls without a rule
+ * do not look at it.
  */
 #ifndef WYNDHOPPER_H
 #define WYNDHOPPER_H
@@ -23,7 +25,7 @@
 #include <stddef.h>
 #include <stdint.h>
 
-#define WYH_VERSION "0.4.0"
+#define WYH_VERSION "0.5.0"
 
 #ifdef __cplusplus
 extern "C" {
@@ -46,7 +48,8 @@ enum {
     WYH_REFUSED_BACKWARD = 9,
     WYH_REFUSED_BAD_POSITION = 10,
     WYH_REFUSED_NO_FINISH = 11,
-    WYH_REFUSED_SHORT_OUTPUT = 12
+    WYH_REFUSED_SHORT_OUTPUT = 12,
+    WYH_REFUSED_UNBOUND = 13
 };
 
 /* A set of positions has so many words of 64, lowest positions first; bit q of the first word is position q. */
@@ -62,7 +65,7 @@ enum { WYH_RULE_ROOM = 255, WYH_FINISH_ROOM = 6 };
 enum { WYH_ANSWER_ROOM = 64 };
 
 /* What reading a sheet is lent: four masks for each of 64 actions, a log and a byte, and so many numbers. */
-enum { WYH_MASKS_ROOM = 256, WYH_LOG_ROOM = 64, WYH_SHEET_NUMBERS = 10 };
+enum { WYH_MASKS_ROOM = 256, WYH_LOG_ROOM = 64, WYH_SHEET_NUMBERS = 11 };
 
 /* ---- The calls over a job --------------------------------------------------------------------------------------------------------------------------------- */
 
@@ -74,9 +77,10 @@ struct wyh_job {
     size_t masks_len;
     const uint8_t *log;
     size_t log_len;
+    size_t domain;
 };
 
-#define WYH_JOB_EMPTY {0, 0, 0, NULL, 0, NULL, 0}
+#define WYH_JOB_EMPTY {0, 0, 0, NULL, 0, NULL, 0, 0}
 
 /* The positions that a walk leads to. */
 struct wyh_reached {
@@ -112,19 +116,19 @@ struct wyh_sheet {
 /* In these calls a pointer whose length is 0 may be NULL.
  *
  *   wyh_job_state       the state at a position of the log, 0 to log_len, in *state. Refusals 3, 4, 5, 10; *state is then 0.
- *   wyh_job_reach       the positions that a walk leads to from `then` with `now`. Refusals 3 to 8, 10; then the set is empty, the count 0, the earliest WYH_NO_POSITION.
- *   wyh_job_verdict     whether a test is true at (then, now): *yes is 1 or 0. Refusals 3 to 8, 10; *yes is then 0.
+ *   wyh_job_reach       the positions that a walk leads to from `then` with `now`. Refusals 3 to 8, 13, 10; then the set is empty, the count 0, the earliest WYH_NO_POSITION.
+ *   wyh_job_verdict     whether a test is true at (then, now): *yes is 1 or 0. Refusals 3 to 8, 13, 10; *yes is then 0.
  *   wyh_job_possible    whether an action may be taken at a position: its need bits are on and its ban bits off in the state there; *yes is 1 or 0. Refusals 3, 4, 5, 7 (the theory
  *                       lacks the action), 10; *yes is then 0.
- *   wyh_job_next        the actions that may come next: those that the run waits for at the log's end and that are possible there; bit a of *actions is action a. Refusals 3 to 9;
- *                       *actions is then 0.
- *   wyh_job_finish      the first sequence of at most `more` (0 to 6) actions that finishes the run, at the front of out; *count is its length. Refusals 3 to 9, 12
- *                       (room is less than more), 11 (no such sequence); then *count is 0.
- *   wyh_job_read_rule   reads one rule: *rest is where the unread rest of the text begins; a rest is no fault. Refusals 3, 6 to 9; *rest is then text_len.
- *   wyh_job_normal      the normal form of a rule, in which no `-` is left, at the front of out; *count is its length. Refusals 3, 6 to 9, 12 (room is less than that);
- *                       then *count is 0.
+ *   wyh_job_next        the actions that may come next: those that the run waits for at the log's end and that are possible there; bit a of *actions is action a. Refusals 3 to 9,
+ *                       13; *actions is then 0.
+ *   wyh_job_finish      the first sequence of at most `more` (0 to 6) actions that finishes the run, at the front of out; *count is its length. Refusals 3 to 9, 13,
+ *                       12 (room is less than more), 11 (no such sequence); then *count is 0.
+ *   wyh_job_read_rule   reads one rule: *rest is where the unread rest of the text begins; a rest is no fault. Refusals 3, 6 to 9, 13; *rest is then text_len.
+ *   wyh_job_normal      the normal form of a rule, in which no `-` is left, at the front of out; *count is its length. Refusals 3, 6 to 9, 13, 12 (room is less than
+ *                       that); then *count is 0.
  *
- * The last two look at the job's counts alone.
+ * The last two look at the job's counts and domain alone.
  *
  *   wyh_job_tally       the tally of the job's log, made afresh in *tally. Refusals 3, 4, 5; *tally then keeps every field.
  *   wyh_job_append      takes one action more into *tally; the job's own log is not looked at. An action that is not possible is taken in too: its effects apply, and the last impossible step
@@ -133,8 +137,8 @@ struct wyh_sheet {
  *                       `<-;aNN*n1` at the log's end, for a tally made from that theory and log, afresh or by appends. Of the job it looks at the count of actions alone. Refusals 3 (that count),
  *                       7 (the theory lacks the action); *yes is then 0.
  *
- *   wyh_job_read_sheet  reads a whole sheet: masks and log go to the front of the lent arrays, and *sheet says the rest. Refusals 1 to 9, for the first faulty line; then masks and log
- *                       keep what they hold. */
+ *   wyh_job_read_sheet  reads a whole sheet: masks and log go to the front of the lent arrays, and *sheet says the rest. Refusals 1 to 9 and 13, for the first faulty line; then masks
+ *                       and log keep what they hold. */
 static inline uint8_t wyh_job_state(const struct wyh_job *job, size_t position, uint32_t *state);
 static inline uint8_t wyh_job_reach(const struct wyh_job *job, const uint8_t *walk, size_t walk_len, size_t then, size_t now, struct wyh_reached *reached);
 static inline uint8_t wyh_job_verdict(const struct wyh_job *job, const uint8_t *test, size_t test_len, size_t then, size_t now, uint8_t *yes);
@@ -157,24 +161,24 @@ static inline const char *wyh_refusal_sentence(uint8_t number);
 uint8_t wyh_state(size_t fluents, size_t actions, uint32_t start, const uint32_t *masks, size_t masks_len, const uint8_t *log, size_t log_len,
                   size_t position, uint32_t *state);
 
-uint8_t wyh_reach(size_t fluents, size_t actions, uint32_t start, const uint32_t *masks, size_t masks_len, const uint8_t *log, size_t log_len,
+uint8_t wyh_reach(size_t fluents, size_t actions, size_t domain, uint32_t start, const uint32_t *masks, size_t masks_len, const uint8_t *log, size_t log_len,
                   const uint8_t *walk, size_t walk_len, size_t then, size_t now, uint64_t *set, uint32_t *count, uint32_t *earliest);
 
-uint8_t wyh_verdict(size_t fluents, size_t actions, uint32_t start, const uint32_t *masks, size_t masks_len, const uint8_t *log, size_t log_len,
+uint8_t wyh_verdict(size_t fluents, size_t actions, size_t domain, uint32_t start, const uint32_t *masks, size_t masks_len, const uint8_t *log, size_t log_len,
                     const uint8_t *test, size_t test_len, size_t then, size_t now, uint8_t *yes);
 
 uint8_t wyh_possible(size_t fluents, size_t actions, uint32_t start, const uint32_t *masks, size_t masks_len, const uint8_t *log, size_t log_len,
                      size_t action, size_t position, uint8_t *yes);
 
-uint8_t wyh_next(size_t fluents, size_t actions, uint32_t start, const uint32_t *masks, size_t masks_len, const uint8_t *log, size_t log_len,
+uint8_t wyh_next(size_t fluents, size_t actions, size_t domain, uint32_t start, const uint32_t *masks, size_t masks_len, const uint8_t *log, size_t log_len,
                  const uint8_t *run, size_t run_len, uint64_t *next);
 
-uint8_t wyh_finish(size_t fluents, size_t actions, uint32_t start, const uint32_t *masks, size_t masks_len, const uint8_t *log, size_t log_len,
+uint8_t wyh_finish(size_t fluents, size_t actions, size_t domain, uint32_t start, const uint32_t *masks, size_t masks_len, const uint8_t *log, size_t log_len,
                    const uint8_t *run, size_t run_len, size_t more, uint8_t *out, size_t room, size_t *count);
 
-uint8_t wyh_read_rule(const uint8_t *text, size_t text_len, uint8_t kind, size_t fluents, size_t actions, size_t *rest);
+uint8_t wyh_read_rule(const uint8_t *text, size_t text_len, uint8_t kind, size_t fluents, size_t actions, size_t domain, size_t *rest);
 
-uint8_t wyh_normal(const uint8_t *text, size_t text_len, uint8_t kind, size_t fluents, size_t actions, uint8_t *out, size_t room, size_t *count);
+uint8_t wyh_normal(const uint8_t *text, size_t text_len, uint8_t kind, size_t fluents, size_t actions, size_t domain, uint8_t *out, size_t room, size_t *count);
 
 uint8_t wyh_tally(size_t fluents, size_t actions, uint32_t start, const uint32_t *masks, size_t masks_len, const uint8_t *log, size_t log_len,
                   struct wyh_tally *tally);
@@ -184,8 +188,8 @@ uint8_t wyh_append(size_t fluents, size_t actions, uint32_t start, const uint32_
 /* The quick yes by the two fields of a tally that it looks at. */
 uint8_t wyh_happened(size_t actions, const uint8_t last[WYH_TALLY_ACTIONS], uint8_t impossible, size_t action, uint8_t *yes);
 
-/* Reads a sheet. The numbers are: the line of the refusal, fluents, actions, start, steps of the log, where the ask rule begins and ends in the sheet, where the run rule does, more; on a refusal all
- * are 0 but the line. */
+/* Reads a sheet. The numbers are: the line of the refusal, fluents, actions, domain (0 on a sheet of version 1), start, steps of the log, where the ask rule begins and ends in the sheet, where the
+ * run rule does, more; on a refusal all are 0 but the line. */
 uint8_t wyh_read_sheet(const uint8_t *sheet, size_t sheet_len, uint32_t masks[WYH_MASKS_ROOM], uint8_t log[WYH_LOG_ROOM], size_t numbers[WYH_SHEET_NUMBERS]);
 
 /* Writes what the program jobsheet prints for a sheet to the front of out, which has WYH_ANSWER_ROOM bytes, and returns how many bytes that is. A refused sheet
@@ -212,7 +216,7 @@ static inline uint8_t wyh_job_state(const struct wyh_job *job, size_t position, 
 
 static inline uint8_t wyh_job_reach(const struct wyh_job *job, const uint8_t *walk, size_t walk_len, size_t then, size_t now, struct wyh_reached *reached) {
     uint32_t count, earliest;
-    uint8_t refused = wyh_reach(job->fluents, job->actions, job->start, wyh_masks(job), job->masks_len, wyh_bytes(job->log, job->log_len), job->log_len,
+    uint8_t refused = wyh_reach(job->fluents, job->actions, job->domain, job->start, wyh_masks(job), job->masks_len, wyh_bytes(job->log, job->log_len), job->log_len,
                                 wyh_bytes(walk, walk_len), walk_len, then, now, &reached->set[0], &count, &earliest);
     reached->count = count;
     reached->earliest = earliest;
@@ -220,7 +224,7 @@ static inline uint8_t wyh_job_reach(const struct wyh_job *job, const uint8_t *wa
 }
 
 static inline uint8_t wyh_job_verdict(const struct wyh_job *job, const uint8_t *test, size_t test_len, size_t then, size_t now, uint8_t *yes) {
-    return wyh_verdict(job->fluents, job->actions, job->start, wyh_masks(job), job->masks_len, wyh_bytes(job->log, job->log_len), job->log_len,
+    return wyh_verdict(job->fluents, job->actions, job->domain, job->start, wyh_masks(job), job->masks_len, wyh_bytes(job->log, job->log_len), job->log_len,
                        wyh_bytes(test, test_len), test_len, then, now, yes);
 }
 
@@ -230,23 +234,23 @@ static inline uint8_t wyh_job_possible(const struct wyh_job *job, size_t action,
 }
 
 static inline uint8_t wyh_job_next(const struct wyh_job *job, const uint8_t *run, size_t run_len, uint64_t *actions) {
-    return wyh_next(job->fluents, job->actions, job->start, wyh_masks(job), job->masks_len, wyh_bytes(job->log, job->log_len), job->log_len,
+    return wyh_next(job->fluents, job->actions, job->domain, job->start, wyh_masks(job), job->masks_len, wyh_bytes(job->log, job->log_len), job->log_len,
                     wyh_bytes(run, run_len), run_len, actions);
 }
 
 static inline uint8_t wyh_job_finish(const struct wyh_job *job, const uint8_t *run, size_t run_len, size_t more, uint8_t *out, size_t room, size_t *count) {
     uint8_t nothing[1] = {0};
-    return wyh_finish(job->fluents, job->actions, job->start, wyh_masks(job), job->masks_len, wyh_bytes(job->log, job->log_len), job->log_len,
+    return wyh_finish(job->fluents, job->actions, job->domain, job->start, wyh_masks(job), job->masks_len, wyh_bytes(job->log, job->log_len), job->log_len,
                       wyh_bytes(run, run_len), run_len, more, room == 0 ? nothing : out, room, count);
 }
 
 static inline uint8_t wyh_job_read_rule(const struct wyh_job *job, uint8_t kind, const uint8_t *text, size_t text_len, size_t *rest) {
-    return wyh_read_rule(wyh_bytes(text, text_len), text_len, kind, job->fluents, job->actions, rest);
+    return wyh_read_rule(wyh_bytes(text, text_len), text_len, kind, job->fluents, job->actions, job->domain, rest);
 }
 
 static inline uint8_t wyh_job_normal(const struct wyh_job *job, uint8_t kind, const uint8_t *text, size_t text_len, uint8_t *out, size_t room, size_t *count) {
     uint8_t nothing[1] = {0};
-    return wyh_normal(wyh_bytes(text, text_len), text_len, kind, job->fluents, job->actions, room == 0 ? nothing : out, room, count);
+    return wyh_normal(wyh_bytes(text, text_len), text_len, kind, job->fluents, job->actions, job->domain, room == 0 ? nothing : out, room, count);
 }
 
 static inline uint8_t wyh_job_tally(const struct wyh_job *job, struct wyh_tally *tally) {
@@ -267,37 +271,39 @@ static inline uint8_t wyh_job_read_sheet(const uint8_t *text, size_t text_len, u
     uint8_t refused = wyh_read_sheet(wyh_bytes(text, text_len), text_len, masks, log, numbers);
     sheet->line = numbers[0];
     sheet->job = empty;
-    sheet->ask = refused ? NULL : text + numbers[5];
-    sheet->ask_len = numbers[6] - numbers[5];
-    sheet->run = refused ? NULL : text + numbers[7];
-    sheet->run_len = numbers[8] - numbers[7];
-    sheet->more = numbers[9];
+    sheet->ask = refused ? NULL : text + numbers[6];
+    sheet->ask_len = numbers[7] - numbers[6];
+    sheet->run = refused ? NULL : text + numbers[8];
+    sheet->run_len = numbers[9] - numbers[8];
+    sheet->more = numbers[10];
     if (refused) return refused;
     sheet->job.fluents = numbers[1];
     sheet->job.actions = numbers[2];
-    sheet->job.start = (uint32_t)numbers[3];
+    sheet->job.domain = numbers[3];
+    sheet->job.start = (uint32_t)numbers[4];
     sheet->job.masks = masks;
     sheet->job.masks_len = 4 * numbers[2];
     sheet->job.log = log;
-    sheet->job.log_len = numbers[4];
+    sheet->job.log_len = numbers[5];
     return 0;
 }
 
 static inline const char *wyh_refusal_sentence(uint8_t number) {
     switch (number) {
     case 0: return "not refused";
-    case WYH_REFUSED_SHEET_TOO_LONG: return "the sheet is longer than 3,263 bytes";
+    case WYH_REFUSED_SHEET_TOO_LONG: return "the sheet is longer than 3,273 bytes";
     case WYH_REFUSED_BAD_LINE: return "the expected key and '=' do not open the line, or its LF is missing, or bytes follow the last line";
-    case WYH_REFUSED_BAD_NUMBER: return "a count, the start state, a mask, the version or more is not written as it should be or out of its range, or a mask table has the wrong length";
+    case WYH_REFUSED_BAD_NUMBER: return "a count, the domain, the start state, a mask, the version or more is not written as it should be or out of its range, or a mask table has the wrong length";
     case WYH_REFUSED_LACKS_FLUENT: return "start or an action's mask names a fluent the theory lacks";
     case WYH_REFUSED_BAD_LOG: return "the log has an odd number of digits, a non-digit, more than 63 actions, or an action the theory lacks";
-    case WYH_REFUSED_BAD_RULE: return "a rule is empty, over 255 bytes, or not exactly one rule of its kind";
+    case WYH_REFUSED_BAD_RULE: return "a rule is empty, over 255 bytes, not exactly one rule of its kind, or has a sign of variables where there is no domain";
     case WYH_REFUSED_LACKS_NAME: return "a rule, or the call, names an action or fluent the theory lacks";
     case WYH_REFUSED_TOO_DEEP: return "a rule is nested more than 24 deep";
     case WYH_REFUSED_BACKWARD: return "a backward sign stands in a run outside every '<' walk";
     case WYH_REFUSED_BAD_POSITION: return "then is after now, or now or the position asked is past the log's end";
     case WYH_REFUSED_NO_FINISH: return "no sequence of so many actions finishes the run";
     case WYH_REFUSED_SHORT_OUTPUT: return "the lent output is shorter than the normal form, or than more";
+    case WYH_REFUSED_UNBOUND: return "a variable stands in a rule outside every binder of its name";
     default: return "no refusal has this number";
     }
 }

@@ -1,5 +1,5 @@
 """The goals beside what was measured. They are reported and decide nothing."""
-from lines import figures, growth, lines, search, work
+from lines import binders, figures, growth, lines, search, work
 
 FASTER = 100
 WITHIN = 1.2
@@ -26,6 +26,7 @@ def beside_plain(column, words):
 
 def under_ten_milliseconds():
     every = [(name, points) for series in growth().values() for name, points in series.items()] + list(work().items()) + list(search().items())
+    every += [(f"{rule}, {values} values", points) for (rule, values), points in binders().items()]
     missed = []
     for name, points in every:
         over = [(x, ours) for x, ours, *_ in points if ours and ours > LONGEST]

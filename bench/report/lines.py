@@ -46,6 +46,15 @@ def search():
     return families
 
 
+def binders():
+    """Rule and values, then rows (k, ours, written out, plain, quick); nothing written out where it does not fit."""
+    families = {}
+    for _, rule, k, values, ours, written, *others in lines("binders.tsv"):
+        told = None if written == "none" else float(written)
+        families.setdefault((rule, int(values)), []).append((int(k), float(ours), told, *map(float, others)))
+    return families
+
+
 def figures(value, wanted=3):
     """A positive number with at least so many figures and no exponent."""
     decimals = max(0, wanted - 1 - math.floor(math.log10(value)))

@@ -3,7 +3,7 @@ import re
 import statistics
 
 from goals import goals
-from lines import DOCS, figures, growth, lines, ratio, search, work
+from lines import DOCS, binders, figures, growth, lines, ratio, search, work
 
 TARGET = DOCS / "BENCHMARKS.md"
 
@@ -77,6 +77,16 @@ def factory():
     return told + f"Quick plain takes {int(median):,} in the median and {int(most):,} at most, {figures(float(longest))} µs."
 
 
+def bound():
+    rows = []
+    for (rule, values), points in binders().items():
+        for k, ours, written, plain, quick in points:
+            beside = [figures(written), ratio(ours, written)] if written else ["does not fit", ""]
+            rows.append([rule, k, values, figures(ours), *beside, figures(plain), ratio(ours, plain), figures(quick), ratio(ours, quick)])
+    head = ["Rule", "Binders", "Values", "Ours, µs", "Written out, µs", "Ours / written out", "Plain, µs", "Ours / plain", "Quick plain, µs", "Ours / quick"]
+    return table(head, rows)
+
+
 def stack():
     taken = {(word, call): (int(size), rule) for _, word, call, size, rule in lines("stack.tsv")}
     calls = sorted({call.split(",")[0] for _, call in taken}, key=["verdict", "reach", "finish", "read_rule", "normal", "answer"].index)
@@ -110,6 +120,7 @@ TABLES = {
     "growth": grown,
     "work": worked,
     "search": sought,
+    "binders": bound,
     "factory": factory,
     "stack": stack,
     "tally": tally,

@@ -85,18 +85,37 @@ fn tallies(job: &Job) {
     told("happened 3", &tally.happened(job, 3));
 }
 
+/// Variables: three actions, and as many values. Some action, twice; the same one twice; what may come next; the converse.
+fn variables(job: &Job) {
+    let some = job.with_domain(3);
+    reach(&some, "pvpw;b00vb00w", 0);
+    reach(&some, "pv;b00vb00v", 0);
+    next(&some, ";*npvb00v");
+    finish(&some, ";*npv;b00vb00v", 2);
+    normal(&some, "-pv;b00va01", wyndhopper::RULE_ROOM);
+    reach(&some, "pvb00w", 0);
+    reach(&some, "pvb01v", 0);
+    reach(job, "pvb00v", 0);
+    verdict(&some.with_domain(2), "evg00v");
+    verdict(&some.with_domain(17), "1");
+}
+
 fn read_sheet(text: &str) {
     let mut room = SheetRoom::new();
     let answer = Sheet::read(text.as_bytes(), &mut room);
     told("read_sheet", &answer.map_err(|fault| fault.refusal));
     let Ok(sheet) = answer else {
-        println!("  line {}, 0 fluents, 0 actions, 0 masks, 0 steps", answer.unwrap_err().line);
+        println!("  line {}, 0 fluents, 0 actions, domain 0, 0 masks, 0 steps", answer.unwrap_err().line);
         println!("  ask \"\", run \"\", more 0");
         return;
     };
     let job = sheet.job;
-    println!("  line 0, {} fluents, {} actions, {} masks, {} steps", job.fluents(), job.actions(), job.masks().len(), job.log().len());
+    print!("  line 0, {} fluents, {} actions, domain {}, ", job.fluents(), job.actions(), job.domain());
+    println!("{} masks, {} steps", job.masks().len(), job.log().len());
     println!("  ask \"{}\", run \"{}\", more {}", String::from_utf8_lossy(sheet.ask), String::from_utf8_lossy(sheet.run), sheet.more);
+    let asked = job.verdict(sheet.ask, job.log().len(), job.log().len());
+    told("its ask", &asked);
+    println!("  {}", if asked == Ok(true) { "yes" } else { "no" });
     finish(&job, ";a00;a01;a02;a00a01", sheet.more);
 }
 
@@ -123,6 +142,9 @@ fn nothing(job: &Job) {
 const SHEET: &str = "sheet=1\nfluents=02\nactions=03\nstart=00000000\nact=00000000,00000000,00000001,00000000\nact=00000001,00000000,00000002,00000000\n\
     act=00000000,00000000,00000000,00000003\nlog=00010200\nask=<-;a00*n!<;*na011\nrun=;a00;a01;a02;a00a01\nmore=2\n";
 
+const SHEET_2: &str = "sheet=2\nfluents=02\nactions=03\ndomain=02\nstart=00000000\nact=00000000,00000000,00000001,00000000\n\
+    act=00000001,00000000,00000002,00000000\nact=00000000,00000000,00000000,00000003\nlog=00010200\nask=evg00v\nrun=;*n?!ev!g00v\nmore=2\n";
+
 fn main() {
     let masks = [0, 0, 1, 0, 1, 0, 2, 0, 0, 0, 0, 3];
     println!("version {}", wyndhopper::VERSION);
@@ -148,10 +170,13 @@ fn main() {
     read_rule(&job, Kind::Run, "u");
     normal(&job, "-;a00*n", wyndhopper::RULE_ROOM);
     normal(&job, "-;a00*n", 5);
+    variables(&job);
     tallies(&job);
     nothing(&job);
     read_sheet(SHEET);
+    read_sheet(SHEET_2);
     read_sheet("sheet=0\n");
     answer(SHEET);
+    answer(SHEET_2);
     answer("sheet=0\n");
 }

@@ -15,7 +15,8 @@ pub const FINISH_ROOM: usize = 6;
 
 /// A theory with a job's log. It is made by [`Job::new`], so that what later versions add breaks no program.
 ///
-/// The mask table has four masks an action: need, ban, put, drop.
+/// The mask table has four masks an action: need, ban, put, drop. The domain is how many values a variable in a rule has, 1 to 16; 0, as [`Job::new`] has it, is a job without variables. Calls
+/// without a rule do not look at it.
 #[derive(Clone, Copy, Debug, PartialEq, Eq)]
 pub struct Job<'a> {
     fluents: usize,
@@ -23,6 +24,7 @@ pub struct Job<'a> {
     start: u32,
     masks: &'a [u32],
     log: &'a [u8],
+    domain: usize,
 }
 
 /// The positions that a walk leads to: the set, how many they are, and the earliest, [`NO_POSITION`] when there is none.
@@ -50,9 +52,9 @@ pub(crate) fn answered<T>(number: u8, value: T) -> Result<T, Refusal> {
 }
 
 impl<'a> Job<'a> {
-    /// A job whose fluents are all off at the start and whose log is empty.
+    /// A job whose fluents are all off at the start, whose log is empty and whose rules have no variables.
     pub const fn new(fluents: usize, actions: usize, masks: &'a [u32]) -> Self {
-        Job { fluents, actions, start: 0, masks, log: &[] }
+        Job { fluents, actions, start: 0, masks, log: &[], domain: 0 }
     }
 
     /// The same job with this start state.
@@ -63,6 +65,22 @@ impl<'a> Job<'a> {
     /// The same job with this log.
     pub const fn with_log(self, log: &'a [u8]) -> Self {
         Job { log, ..self }
+    }
+
+    /// The same job with so many values for a variable.
+    ///
+    /// ```
+    /// use wyndhopper::{Job, Refusal};
+    ///
+    /// // Two labels; print 2 needs label 1. Is some label out?
+    /// let masks = [0, 0, 1, 0, 1, 0, 2, 0];
+    /// let job = Job::new(2, 2, &masks).with_log(&[0]);
+    /// assert_eq!(job.with_domain(2).verdict(b"evg00v", 1, 1), Ok(true));
+    /// assert_eq!(job.verdict(b"evg00v", 1, 1), Err(Refusal::BadRule));
+    /// assert_eq!(job.with_domain(2).verdict(b"g00v", 1, 1), Err(Refusal::Unbound));
+    /// ```
+    pub const fn with_domain(self, domain: usize) -> Self {
+        Job { domain, ..self }
     }
 
     pub const fn fluents(&self) -> usize {
@@ -83,6 +101,10 @@ impl<'a> Job<'a> {
 
     pub const fn log(&self) -> &'a [u8] {
         self.log
+    }
+
+    pub const fn domain(&self) -> usize {
+        self.domain
     }
 
     /// The state at a position of the log.
@@ -111,6 +133,7 @@ impl<'a> Job<'a> {
             raw::wyh_reach(
                 self.fluents,
                 self.actions,
+                self.domain,
                 self.start,
                 self.masks.as_ptr(),
                 self.masks.len(),
@@ -135,6 +158,7 @@ impl<'a> Job<'a> {
             raw::wyh_verdict(
                 self.fluents,
                 self.actions,
+                self.domain,
                 self.start,
                 self.masks.as_ptr(),
                 self.masks.len(),
@@ -177,6 +201,7 @@ impl<'a> Job<'a> {
             raw::wyh_next(
                 self.fluents,
                 self.actions,
+                self.domain,
                 self.start,
                 self.masks.as_ptr(),
                 self.masks.len(),
@@ -197,6 +222,7 @@ impl<'a> Job<'a> {
             raw::wyh_finish(
                 self.fluents,
                 self.actions,
+                self.domain,
                 self.start,
                 self.masks.as_ptr(),
                 self.masks.len(),
@@ -213,18 +239,29 @@ impl<'a> Job<'a> {
         answered(refused, count)
     }
 
-    /// Reads one rule and hands back the unread rest of the text. Of the job it looks at the counts alone.
+    /// Reads one rule and hands back the unread rest of the text. Of the job it looks at the counts and the domain alone.
     pub fn read_rule<'t>(&self, kind: Kind, text: &'t [u8]) -> Result<&'t [u8], Refusal> {
         let mut rest = 0;
-        let refused = unsafe { raw::wyh_read_rule(text.as_ptr(), text.len(), kind as u8, self.fluents, self.actions, &mut rest) };
+        let refused = unsafe { raw::wyh_read_rule(text.as_ptr(), text.len(), kind as u8, self.fluents, self.actions, self.domain, &mut rest) };
         answered(refused, &text[rest..])
     }
 
-    /// The normal form of a rule: written to the front of `out`, its length returned. Of the job it looks at the counts alone.
+    /// The normal form of a rule: written to the front of `out`, its length returned. Of the job it looks at the counts and the domain alone.
     pub fn normal(&self, kind: Kind, text: &[u8], out: &mut [u8]) -> Result<usize, Refusal> {
         let mut count = 0;
-        let refused =
-            unsafe { raw::wyh_normal(text.as_ptr(), text.len(), kind as u8, self.fluents, self.actions, out.as_mut_ptr(), out.len(), &mut count) };
+        let refused = unsafe {
+            raw::wyh_normal(
+                text.as_ptr(),
+                text.len(),
+                kind as u8,
+                self.fluents,
+                self.actions,
+                self.domain,
+                out.as_mut_ptr(),
+                out.len(),
+                &mut count,
+            )
+        };
         answered(refused, count)
     }
 }

@@ -17,6 +17,7 @@ extern "C" {
     pub fn wyh_reach(
         fluents: usize,
         actions: usize,
+        domain: usize,
         start: u32,
         masks: *const u32,
         masks_len: usize,
@@ -34,6 +35,7 @@ extern "C" {
     pub fn wyh_verdict(
         fluents: usize,
         actions: usize,
+        domain: usize,
         start: u32,
         masks: *const u32,
         masks_len: usize,
@@ -62,6 +64,7 @@ extern "C" {
     pub fn wyh_next(
         fluents: usize,
         actions: usize,
+        domain: usize,
         start: u32,
         masks: *const u32,
         masks_len: usize,
@@ -97,7 +100,15 @@ extern "C" {
 
     pub fn wyh_read_sheet(sheet: *const u8, sheet_len: usize, masks: *mut u32, log: *mut u8, numbers: *mut usize) -> u8;
 
-    pub fn wyh_read_rule(text: *const u8, text_len: usize, kind: u8, fluents: usize, actions: usize, rest: *mut usize) -> u8;
+    pub fn wyh_read_rule(
+        text: *const u8,
+        text_len: usize,
+        kind: u8,
+        fluents: usize,
+        actions: usize,
+        domain: usize,
+        rest: *mut usize,
+    ) -> u8;
 
     pub fn wyh_normal(
         text: *const u8,
@@ -105,6 +116,7 @@ extern "C" {
         kind: u8,
         fluents: usize,
         actions: usize,
+        domain: usize,
         out: *mut u8,
         room: usize,
         count: *mut usize,
@@ -113,6 +125,7 @@ extern "C" {
     pub fn wyh_finish(
         fluents: usize,
         actions: usize,
+        domain: usize,
         start: u32,
         masks: *const u32,
         masks_len: usize,

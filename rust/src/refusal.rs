@@ -18,11 +18,12 @@ pub enum Refusal {
     BadPosition = 10,
     NoFinish = 11,
     ShortOutput = 12,
+    Unbound = 13,
 }
 
 impl Refusal {
     /// All of them, in the order of their numbers.
-    pub const ALL: [Refusal; 12] = [
+    pub const ALL: [Refusal; 13] = [
         Refusal::SheetTooLong,
         Refusal::BadLine,
         Refusal::BadNumber,
@@ -35,6 +36,7 @@ impl Refusal {
         Refusal::BadPosition,
         Refusal::NoFinish,
         Refusal::ShortOutput,
+        Refusal::Unbound,
     ];
 
     /// The number in the table of docs/REFUSALS.md.
@@ -51,18 +53,19 @@ impl Refusal {
 impl fmt::Display for Refusal {
     fn fmt(&self, f: &mut fmt::Formatter<'_>) -> fmt::Result {
         f.write_str(match self {
-            Refusal::SheetTooLong => "the sheet is longer than 3,263 bytes",
+            Refusal::SheetTooLong => "the sheet is longer than 3,273 bytes",
             Refusal::BadLine => "the expected key and '=' do not open the line, or its LF is missing, or bytes follow the last line",
-            Refusal::BadNumber => "a count, the start state, a mask, the version or more is not written as it should be or out of its range, or a mask table has the wrong length",
+            Refusal::BadNumber => "a count, the domain, the start state, a mask, the version or more is not written as it should be or out of its range, or a mask table has the wrong length",
             Refusal::LacksFluent => "start or an action's mask names a fluent the theory lacks",
             Refusal::BadLog => "the log has an odd number of digits, a non-digit, more than 63 actions, or an action the theory lacks",
-            Refusal::BadRule => "a rule is empty, over 255 bytes, or not exactly one rule of its kind",
+            Refusal::BadRule => "a rule is empty, over 255 bytes, not exactly one rule of its kind, or has a sign of variables where there is no domain",
             Refusal::LacksName => "a rule, or the call, names an action or fluent the theory lacks",
             Refusal::TooDeep => "a rule is nested more than 24 deep",
             Refusal::Backward => "a backward sign stands in a run outside every '<' walk",
             Refusal::BadPosition => "then is after now, or now or the position asked is past the log's end",
             Refusal::NoFinish => "no sequence of so many actions finishes the run",
             Refusal::ShortOutput => "the lent output is shorter than the normal form, or than more",
+            Refusal::Unbound => "a variable stands in a rule outside every binder of its name",
         })
     }
 }

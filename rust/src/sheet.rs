@@ -6,7 +6,7 @@ use std::fmt;
 /// How many masks and how much of a log the reading of a sheet is lent, and how many numbers it gives.
 pub const MASKS_ROOM: usize = 256;
 pub const LOG_ROOM: usize = 64;
-const SHEET_NUMBERS: usize = 10;
+const SHEET_NUMBERS: usize = 11;
 
 /// Room for the masks and the log of a sheet. A refused sheet leaves it as it was.
 #[derive(Clone, Debug, PartialEq, Eq)]
@@ -71,9 +71,9 @@ impl<'a> Sheet<'a> {
         let mut numbers = [0; SHEET_NUMBERS];
         let refused =
             unsafe { raw::wyh_read_sheet(text.as_ptr(), text.len(), room.masks.as_mut_ptr(), room.log.as_mut_ptr(), numbers.as_mut_ptr()) };
-        let [line, fluents, actions, start, steps, ask, ask_end, run, run_end, more] = numbers;
+        let [line, fluents, actions, domain, start, steps, ask, ask_end, run, run_end, more] = numbers;
         answered(refused, ()).map_err(|refusal| Fault { refusal, line })?;
-        let job = Job::new(fluents, actions, &room.masks[..4 * actions]).with_start(start as u32).with_log(&room.log[..steps]);
+        let job = Job::new(fluents, actions, &room.masks[..4 * actions]).with_domain(domain).with_start(start as u32).with_log(&room.log[..steps]);
         Ok(Sheet { job, ask: &text[ask..ask_end], run: &text[run..run_end], more })
     }
 }

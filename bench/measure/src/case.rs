@@ -3,6 +3,8 @@
 #[derive(Clone, Debug)]
 pub struct Theory {
     pub fluents: usize,
+    /// How many values a variable has, 0 where no rule has one.
+    pub domain: usize,
     pub start: u32,
     /// Need, ban, put, drop, four masks an action.
     pub masks: Vec<u32>,
@@ -32,6 +34,10 @@ impl Theory {
     pub fn actions(&self) -> usize {
         self.masks.len() / 4
     }
+
+    pub fn with_domain(self, domain: usize) -> Self {
+        Theory { domain, ..self }
+    }
 }
 
 fn told(count: usize, out: &[u8; 6]) -> [u64; 3] {
@@ -41,7 +47,7 @@ fn told(count: usize, out: &[u8; 6]) -> [u64; 3] {
 /// The proved library, through its safe Rust crate.
 pub fn ours(c: &Case) -> Answer {
     let t = &c.theory;
-    let job = wyndhopper::Job::new(t.fluents, t.actions(), &t.masks).with_start(t.start).with_log(&c.log);
+    let job = wyndhopper::Job::new(t.fluents, t.actions(), &t.masks).with_domain(t.domain).with_start(t.start).with_log(&c.log);
     let now = c.log.len();
     let answer = match &c.ask {
         Ask::Verdict { test, then } => job.verdict(test.as_bytes(), *then, now).map(|yes| [u64::from(yes), 0, 0]),
@@ -59,7 +65,7 @@ macro_rules! engine {
     ($name:ident, $verdict:ident, $reach:ident, $finish:ident) => {
         pub fn $name(c: &Case) -> Answer {
             let t = &c.theory;
-            let job = plain::Job { fluents: t.fluents, actions: t.actions(), start: t.start, masks: &t.masks, log: &c.log };
+            let job = plain::Job { fluents: t.fluents, actions: t.actions(), domain: t.domain, start: t.start, masks: &t.masks, log: &c.log };
             let now = c.log.len();
             match &c.ask {
                 Ask::Verdict { test, then } => job.$verdict(test.as_bytes(), *then, now).map(|yes| [u64::from(yes), 0, 0]),
@@ -81,7 +87,7 @@ engine!(quick, quick_verdict, quick_reach, quick_finish);
 impl Case {
     fn plain(&self) -> plain::Job<'_> {
         let t = &self.theory;
-        plain::Job { fluents: t.fluents, actions: t.actions(), start: t.start, masks: &t.masks, log: &self.log }
+        plain::Job { fluents: t.fluents, actions: t.actions(), domain: t.domain, start: t.start, masks: &t.masks, log: &self.log }
     }
 }
 
@@ -104,9 +110,10 @@ pub fn visits(c: &Case) -> Option<(usize, usize)> {
     Some((visits.ok()?, text.len() * (now + 1) * (now + 2) / 2))
 }
 
-/// A sheet's text.
+/// A sheet's text, of version 2 where there are variables.
 pub fn sheet(t: &Theory, log: &[u8], ask: &str, run: &str, more: usize) -> String {
-    let mut s = format!("sheet=1\nfluents={:02}\nactions={:02}\nstart={:08x}\n", t.fluents, t.actions(), t.start);
+    let (version, domain) = if t.domain == 0 { (1, String::new()) } else { (2, format!("domain={:02}\n", t.domain)) };
+    let mut s = format!("sheet={version}\nfluents={:02}\nactions={:02}\n{domain}start={:08x}\n", t.fluents, t.actions(), t.start);
     for m in t.masks.chunks(4) {
         s += &format!("act={:08x},{:08x},{:08x},{:08x}\n", m[0], m[1], m[2], m[3]);
     }

@@ -4,7 +4,7 @@ use std::hint::black_box;
 use crate::case::{ours, plain, quick, sheet, turns, Ask, Case, Theory};
 use crate::clock::{least, side_by_side, TABLE};
 use crate::texts::{diamonds, held_up, in_order, tests, wide_choice, wide_test};
-use crate::theories::{cartons, document, each_once, either, idle, labels, round};
+use crate::theories::{cartons, document, each_once, either, idle, labels, round, sixteen};
 
 const SPOILED: &str = "<-;a05*n!<;*na011";
 
@@ -33,6 +33,9 @@ fn verdicts() -> Vec<Case> {
         verdict("`?` nested 3 deep, log of 63", labels(8), round(63, 8), &tests(3)),
         verdict("a star held up by a test, log of 63", labels(8), round(63, 8), &held_up(1)),
         verdict("such a star in such a star, log of 63", labels(8), round(63, 8), &held_up(2)),
+        verdict("each of sixteen cartons is out, log of 63", sixteen(), round(63, 32), "!ev!g00v"),
+        verdict("some carton voided and not printed again, log of 63", sixteen(), round(63, 32), "ev&!g00v<-;b16v*n1"),
+        verdict("some carton is out and another voided, log of 63", sixteen(), round(63, 32), "evew&g00v&!g00w<-;b16w*n1"),
     ]
 }
 
@@ -47,7 +50,14 @@ fn reaches() -> Vec<Case> {
         reach("23 `*` before `n`, log of 63", labels(64), round(63, 64), &stars, 0),
         reach("a choice of 255 bytes, log of 63", labels(64), round(63, 64), &wide, 0),
         reach("its star, 63 rounds, log of 63", labels(64), round(63, 64), &star, 0),
+        reach("prints, and voids with their reprint, log of 63", sixteen(), round(63, 32), "*pv|b00v;b16vb00v", 0),
+        reach("some print, then some void, log of 63", sixteen(), round(63, 32), ";*n;pvb00v;*npwb16w", 0),
     ]
+}
+
+/// Fourteen labels are out but the third, which was voided.
+fn voided() -> Vec<u8> {
+    (0..14).chain([18]).collect()
 }
 
 fn finishes() -> Vec<Case> {
@@ -58,6 +68,7 @@ fn finishes() -> Vec<Case> {
         finish("finished already, log of 63", labels(64), round(63, 64), &in_order(63), 6),
         finish("64 actions, six of 63 labels missing", labels(64), round(57, 64), &in_order(63), 6),
         finish("six labels in any order, from none", each_once(6), vec![], any_order, 6),
+        finish("sixteen cartons, three missing after a void", sixteen(), voided(), ";*pv|b00v;b16vb00v?!ev!g00v", 6),
         finish("no way out: 4 actions, more 6", idle(4), vec![], ";*n?f00", 6),
         finish("no way out: 64 actions, more 2", idle(64), vec![], ";*n?f00", 2),
         finish("no way out: 64 actions, more 2, log of 61", idle(64), round(61, 64), ";*n?f00", 2),
@@ -95,8 +106,9 @@ fn sheets() -> Vec<(&'static str, String)> {
     vec![
         ("document 01's sheet", sheet(&document(), &[0, 1, 2, 0], "<-;a00*n!<;*na011", ";a00;a01;a02;a00a01", 2)),
         ("spoiled label, three missing", sheet(&cartons(), &[0, 1, 2, 5], SPOILED, ";a00;a01;a02;a05;a01;a03a04", 6)),
+        ("sixteen cartons, three missing after a void", sheet(&sixteen(), &voided(), "ev&!g00v<-;b16v*n1", ";*pv|b00v;b16vb00v?!ev!g00v", 6)),
         ("64 actions, log of 57, six missing", sheet(&many, &round(57, 64), SPOILED, &in_order(63), 6)),
-        ("the longest sheet, 3,263 bytes", sheet(&many, &round(63, 64), &wide_test(255), &wide_choice(255), 6)),
+        ("the longest sheet of version 1, 3,263 bytes", sheet(&many, &round(63, 64), &wide_test(255), &wide_choice(255), 6)),
     ]
 }
 

@@ -28,7 +28,7 @@ fn line(d: &mut Dice, actions: usize) -> Theory {
         let spoiled = if d.below(5) == 0 { 1 << d.below(fluents) & !own } else { 0 };
         masks.extend([need, if d.below(3) > 0 { 0 } else { own & !need }, own, spoiled]);
     }
-    Theory { fluents: 32, start: 0, masks }
+    Theory { fluents: 32, domain: 0, start: 0, masks }
 }
 
 /// Steps that were possible, one after another; fewer where none is left.

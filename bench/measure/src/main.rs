@@ -1,5 +1,6 @@
-//! Measures the proved library: `measure compare`, `measure growth`, `measure work`, `measure search`, `measure stack`, `measure tally`, `measure interpreter FOLDER`. Each prints lines of columns with tabs
+//! Measures the proved library: `measure compare`, `measure growth`, `measure work`, `measure search`, `measure binders`, `measure stack`, `measure tally`, `measure interpreter FOLDER`. Each prints lines of columns with tabs
 //! between, for the scripts beside it.
+mod binders;
 mod case;
 mod clock;
 mod compare;
@@ -24,11 +25,12 @@ fn main() {
         ["growth"] => growth::run(),
         ["work"] => work::run(),
         ["search"] => sought::run(),
+        ["binders"] => binders::run(),
         ["stack"] => stack::run(),
         ["tally"] => tally::run(),
         ["interpreter", folder] => interpreter::run(folder.as_ref()),
         _ => {
-            eprintln!("measure compare | growth | work | search | stack | tally | interpreter FOLDER");
+            eprintln!("measure compare | growth | work | search | binders | stack | tally | interpreter FOLDER");
             std::process::exit(2);
         }
     }

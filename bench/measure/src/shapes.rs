@@ -4,13 +4,16 @@
 #[derive(Clone, Debug)]
 pub struct Way(pub Vec<usize>);
 
+/// The sign of a binder, of walks or of tests.
+const BINDER: usize = 7;
+
 impl Way {
     /// Every way that repeats after at most `period` signs.
     pub fn all(period: u32) -> Vec<Way> {
         let mut ways = Vec::new();
         for p in 1..=period {
-            for code in 0..7usize.pow(p) {
-                ways.push(Way((0..p).map(|k| code / 7usize.pow(k) % 7).collect()));
+            for code in 0..8usize.pow(p) {
+                ways.push(Way((0..p).map(|k| code / 8usize.pow(k) % 8).collect()));
             }
         }
         ways
@@ -20,10 +23,15 @@ impl Way {
         self.0[left % self.0.len()]
     }
 
+    /// Down to the end of a way with binders a variable is bound.
+    fn leaf(&self, sum: &str, plain: &str) -> String {
+        if self.0.contains(&BINDER) { sum } else { plain }.into()
+    }
+
     /// A walk of this depth. With `job` no backward sign is taken outside a `<`.
     pub fn walk(&self, depth: usize, job: bool) -> String {
         if depth <= 1 {
-            return "a00".into();
+            return self.leaf("b00v", "a00");
         }
         let part = || self.walk(depth - 1, job);
         match self.sign(depth) {
@@ -33,6 +41,7 @@ impl Way {
             3 => format!(";{}n", part()),
             4 => format!(";n{}", part()),
             5 => format!("|{}n", part()),
+            BINDER => format!("pv{}", part()),
             _ => format!("|n{}", part()),
         }
     }
@@ -40,7 +49,7 @@ impl Way {
     /// A test of this depth.
     pub fn test(&self, depth: usize) -> String {
         if depth <= 1 {
-            return "f00".into();
+            return self.leaf("g00v", "f00");
         }
         let part = || self.test(depth - 1);
         match self.sign(depth) {
@@ -48,6 +57,7 @@ impl Way {
             1 => format!("&{}1", part()),
             2 => format!("&1{}", part()),
             3 => format!("<n{}", part()),
+            BINDER => format!("ev{}", part()),
             _ => format!("<{}1", self.walk(depth - 1, false)),
         }
     }

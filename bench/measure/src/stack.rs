@@ -5,9 +5,9 @@ use crate::case::{ours, plain, quick, sheet, Ask, Case, Theory};
 use crate::painted::stack_of;
 use crate::shapes::Way;
 
-/// Action 00 is never possible, action 01 always: a search for a finish goes down to the bound and comes back.
+/// Action 00 is never possible, action 01 always: a search for a finish goes down to the bound and comes back. One value, so that binders nest at no cost of time.
 fn theory() -> Theory {
-    Theory { fluents: 1, start: 0, masks: vec![1, 0, 0, 0, 0, 0, 0, 0] }
+    Theory { fluents: 1, domain: 1, start: 0, masks: vec![1, 0, 0, 0, 0, 0, 0, 0] }
 }
 
 fn case(ask: Ask) -> Case {
@@ -52,7 +52,7 @@ fn rules(way: &Way, accepted: bool) -> (String, String, String) {
 
 fn texts(deepest: &mut [Deepest; 2], text: &str, kind: wyndhopper::Kind) {
     let t = text.as_bytes();
-    let job = wyndhopper::Job::new(1, 2, &[]);
+    let job = wyndhopper::Job::new(1, 2, &[]).with_domain(1);
     deepest[0].try_call(text, &mut || {
         black_box(job.read_rule(kind, black_box(t))).ok();
     });

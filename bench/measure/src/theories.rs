@@ -11,7 +11,7 @@ pub fn labels(actions: usize) -> Theory {
         let drop = if odd { 1 << ((a + 1) % fluents) & !need } else { 0 };
         masks.extend([need, 0, 1 << (a % fluents), drop]);
     }
-    Theory { fluents, start: 0, masks }
+    Theory { fluents, domain: 0, start: 0, masks }
 }
 
 /// The labels of a theory in order, over and over.
@@ -22,29 +22,36 @@ pub fn round(steps: usize, actions: usize) -> Vec<u8> {
 /// Labels in any order, each once: action a needs nothing, is banned by its own fluent and puts it on.
 pub fn each_once(actions: usize) -> Theory {
     let masks = (0..actions).flat_map(|a| [0, 1 << a, 1 << a, 0]).collect();
-    Theory { fluents: actions, start: 0, masks }
+    Theory { fluents: actions, domain: 0, start: 0, masks }
 }
 
 /// Actions that are always possible and do nothing; the one fluent stays off.
 pub fn idle(actions: usize) -> Theory {
-    Theory { fluents: 1, start: 0, masks: vec![0; 4 * actions] }
+    Theory { fluents: 1, domain: 0, start: 0, masks: vec![0; 4 * actions] }
 }
 
 /// The theory of document 01's sheet.
 pub fn document() -> Theory {
-    Theory { fluents: 2, start: 0, masks: vec![0, 0, 1, 0, 1, 0, 2, 0, 0, 0, 0, 3] }
+    Theory { fluents: 2, domain: 0, start: 0, masks: vec![0, 0, 1, 0, 1, 0, 2, 0, 0, 0, 0, 3] }
 }
 
 /// Five cartons in order; action 05 reports label 2 spoiled.
 pub fn cartons() -> Theory {
     let mut masks: Vec<u32> = (0..5).flat_map(|a| [(1 << a) - 1, 0, 1 << a, 0]).collect();
     masks.extend([2, 0, 0, 2]);
-    Theory { fluents: 5, start: 0, masks }
+    Theory { fluents: 5, domain: 0, start: 0, masks }
+}
+
+/// Sixteen cartons: actions 00 to 15 print their labels in order, none while it is out, 16 to 31 void them.
+pub fn sixteen() -> Theory {
+    let prints = (0..16).flat_map(|a| [(1 << a) - 1, 1 << a, 1 << a, 0]);
+    let voids = (0..16).flat_map(|a| [1 << a, 0, 0, 1 << a]);
+    Theory { fluents: 16, domain: 16, start: 0, masks: prints.chain(voids).collect() }
 }
 
 /// Label 1, then labels 2 and 3 in either order, then label 4.
 pub fn either() -> Theory {
-    Theory { fluents: 4, start: 0, masks: vec![0, 0, 1, 0, 1, 0, 2, 0, 1, 0, 4, 0, 7, 0, 8, 0] }
+    Theory { fluents: 4, domain: 0, start: 0, masks: vec![0, 0, 1, 0, 1, 0, 2, 0, 1, 0, 4, 0, 7, 0, 8, 0] }
 }
 
 /// The cartons, then stations beside the line that put marks of their own on and off: nothing of theirs is needed by a carton. Action 05 voids all labels.
@@ -52,5 +59,5 @@ pub fn stations(actions: usize) -> Theory {
     let mut masks = cartons().masks;
     masks[20..].copy_from_slice(&[0, 0, 0, 31]);
     masks.extend((6..actions).flat_map(|a| [0, 0, 1 << (5 + a % 20), 1 << (5 + a * 7 % 20)]));
-    Theory { fluents: 32, start: 0, masks }
+    Theory { fluents: 32, domain: 0, start: 0, masks }
 }

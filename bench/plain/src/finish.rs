@@ -1,7 +1,7 @@
 //! The search: lengths from 0 up, in each depth first in action order, over one trail that grows and shrinks in place; only actions that are possible and that
 //! the job asks for are tried. The tables are made afresh at every turn.
 use crate::evaluate::Evaluator;
-use crate::rule::Rule;
+use crate::rule::{Rule, Values};
 use crate::world::{possible, up_to, Tables, World, LOG_LIMIT};
 
 pub struct Search<'a> {
@@ -25,17 +25,19 @@ pub fn longest(world: &World, more: usize) -> usize {
 
 impl Evaluator<'_> {
     /// The actions that the walk at a place asks for at the end, from some position of a set.
-    fn asks(&self, at: usize, from: u64, end: usize) -> u64 {
+    fn asks(&self, at: usize, from: u64, end: usize, values: Values) -> u64 {
         let waits = from >> end & 1 == 1;
         match self.sign(at) {
             b'a' if waits => 1 << self.named(at),
+            b'b' if waits => 1 << self.sum(at, values),
             b'n' if waits => !0,
             b';' => {
-                let middle = self.walk(at + 1, from, up_to(end), false);
-                self.asks(at + 1, from, end) | self.asks(self.second(at), middle, end)
+                let middle = self.walk(at + 1, from, up_to(end), false, values);
+                self.asks(at + 1, from, end, values) | self.asks(self.second(at), middle, end, values)
             }
-            b'|' => self.asks(at + 1, from, end) | self.asks(self.second(at), from, end),
-            b'*' => self.asks(at + 1, self.walk(at, from, up_to(end), false), end),
+            b'|' => self.asks(at + 1, from, end, values) | self.asks(self.second(at), from, end, values),
+            b'*' => self.asks(at + 1, self.walk(at, from, up_to(end), false, values), end, values),
+            b'p' => self.joined(at, values, |at, values| self.asks(at, from, end, values)),
             _ => 0,
         }
     }
@@ -44,12 +46,12 @@ impl Evaluator<'_> {
 impl Search<'_> {
     fn finished(&self, n: usize) -> bool {
         let tables = Tables::over(self.world, &self.trail[..n]);
-        Evaluator::new(self.rule, &tables).walk(0, 1, up_to(n), false) >> n & 1 == 1
+        Evaluator::new(self.rule, &tables).walk(0, 1, up_to(n), false, 0) >> n & 1 == 1
     }
 
     fn tries(&self, n: usize) -> u64 {
         let tables = Tables::over(self.world, &self.trail[..n]);
-        doable(self.world, tables.last) & Evaluator::new(self.rule, &tables).asks(0, 1, n)
+        doable(self.world, tables.last) & Evaluator::new(self.rule, &tables).asks(0, 1, n, 0)
     }
 
     /// The first sequence of exactly `left` actions behind the first n of the trail: whether there is one; it then stands there.

@@ -4,7 +4,7 @@ use crate::evaluate::cross;
 use crate::finish::longest;
 use crate::lengths::Lengths;
 use crate::quick::Quick;
-use crate::rule::Rule;
+use crate::rule::{Rule, Values};
 use crate::standins::worth;
 use crate::world::{after, possible, up_to, Tables, World};
 
@@ -34,7 +34,7 @@ fn wait(asked: &mut Asked, these: u64, behind: u8) {
 
 impl Quick<'_, false> {
     /// Where the walk at a place leads to; what it asks for at the end is joined to `asked`.
-    fn onward(&mut self, at: usize, from: u64, end: usize, follow: &[u8; 256], asked: &mut Asked) -> u64 {
+    fn onward(&mut self, at: usize, from: u64, end: usize, values: Values, follow: &[u8; 256], asked: &mut Asked) -> u64 {
         let waits = from >> end & 1 == 1;
         match self.sign(at) {
             b'a' => {
@@ -43,6 +43,12 @@ impl Quick<'_, false> {
                 }
                 cross(from, self.over(at), up_to(end), false)
             }
+            b'b' => {
+                if waits {
+                    wait(asked, 1 << self.sum(at, values), follow[at & 255]);
+                }
+                cross(from, self.over_sum(at, values), up_to(end), false)
+            }
             b'n' => {
                 if waits {
                     wait(asked, !0, follow[at & 255]);
@@ -50,12 +56,14 @@ impl Quick<'_, false> {
                 cross(from, self.any, up_to(end), false)
             }
             b';' => {
-                let middle = self.onward(at + 1, from, end, follow, asked);
-                self.onward(self.second(at), middle, end, follow, asked)
+                let middle = self.onward(at + 1, from, end, values, follow, asked);
+                self.onward(self.second(at), middle, end, values, follow, asked)
             }
-            b'|' => self.onward(at + 1, from, end, follow, asked) | self.onward(self.second(at), from, end, follow, asked),
-            b'*' => self.star(at, from, |quick, body, new| quick.onward(body, new, end, follow, asked)),
-            _ => self.here(at, from),
+            b'|' => self.onward(at + 1, from, end, values, follow, asked) | self.onward(self.second(at), from, end, values, follow, asked),
+            b'*' => self.star(at, from, |quick, body, new| quick.onward(body, new, end, values, follow, asked)),
+            b'p' if from == 0 => 0,
+            b'p' => self.joined(at, values, |quick, at, values| quick.onward(at, from, end, values, follow, asked)),
+            _ => self.here(at, from, values),
         }
     }
 
@@ -82,7 +90,7 @@ impl Growing<'_> {
         let mut asked = [0; 7];
         let mut quick = Quick::new(self.rule, &self.tables, self.slots);
         quick.renew(n);
-        let reached = quick.onward(0, 1, n, &self.lengths.follow, &mut asked);
+        let reached = quick.onward(0, 1, n, 0, &self.lengths.follow, &mut asked);
         (reached >> n & 1 == 1, asked)
     }
 

@@ -48,7 +48,7 @@ impl<'a> Lengths<'a> {
     fn before(&mut self, at: usize, behind: u8) -> u8 {
         let text = self.rule.text;
         match text[at] {
-            b'a' | b'n' => {
+            b'a' | b'b' | b'n' => {
                 self.follow[at & 255] |= behind;
                 behind << 1 & MOST
             }
@@ -58,6 +58,7 @@ impl<'a> Lengths<'a> {
             }
             b'|' => self.before(at + 1, behind) | self.before(self.rule.second(at), behind),
             b'*' => self.rounds(at, behind),
+            b'p' => self.before(at + 2, behind),
             _ if self.may_be(at + 1, true) => behind,
             _ => 0,
         }
@@ -77,11 +78,16 @@ impl<'a> Lengths<'a> {
         seen
     }
 
-    /// Whether the test at a place may have this truth at the log's end or behind it, as far as the fluents say; a `<` may have either.
+    /// Whether the test at a place may have this truth at the log's end or behind it, as far as the fluents say; a `<` may have either, and a variable any value.
     fn may_be(&self, at: usize, truth: bool) -> bool {
         match self.rule.text[at] {
             b'1' => truth,
             b'f' => (if truth { self.turning.on } else { self.turning.off }) >> (self.rule.named(at) & 31) & 1 == 1,
+            b'g' => {
+                let of = if truth { self.turning.on } else { self.turning.off };
+                of >> (self.rule.named(at) & 31) & ((1 << self.rule.domain) - 1) != 0
+            }
+            b'e' => self.may_be(at + 2, truth),
             b'!' => self.may_be(at + 1, !truth),
             b'&' if truth => self.may_be(at + 1, true) && self.may_be(self.rule.second(at), true),
             b'&' => self.may_be(at + 1, false) || self.may_be(self.rule.second(at), false),

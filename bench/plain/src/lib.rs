@@ -1,7 +1,8 @@
 //! The same algorithm in plain safe Rust, as a good engineer would write it with no proof in mind: what the proved library is measured against.
 //!
 //! Same calls, same answers, same refusals: the log transposed into words, sets in and sets out over the rule's text, `<WT` by the converse, star as
-//! closure, a table of where each rule ends. Every call clears its own tables (done, lit, ends: 1,024 bytes); nothing is kept between calls.
+//! closure, a table of where each rule ends; a binder goes over the values of its variable, once where it does not stand free in the part. Every call clears its own tables (done, lit, ends:
+//! 1,024 bytes); nothing is kept between calls.
 //!
 //! The calls with `quick_` go further than the proved library does: no ground is walked twice by a star and no test is asked twice; a search is told how long the
 //! rest of a job may be, tries one of several actions that do the same, and its tables grow and shrink with its log.
@@ -19,17 +20,18 @@ pub use rule::Kind;
 
 use evaluate::Evaluator;
 use quick::Quick;
-use rule::Rule;
+use rule::{Counts, Rule};
 use world::{up_to, Tables, World};
 
 /// A refusal's number.
 pub type Refusal = u8;
 
-/// A theory with a job's log. The mask table has four masks an action: need, ban, put, drop.
+/// A theory with a job's log and the domain of its rules' variables, 0 for none. The mask table has four masks an action: need, ban, put, drop.
 #[derive(Clone, Copy, Debug)]
 pub struct Job<'a> {
     pub fluents: usize,
     pub actions: usize,
+    pub domain: usize,
     pub start: u32,
     pub masks: &'a [u32],
     pub log: &'a [u8],
@@ -51,11 +53,15 @@ impl Reached {
 
 impl<'a> Job<'a> {
     fn world(&self) -> Result<World<'a>, Refusal> {
-        World::checked(self.fluents, self.actions, self.start, self.masks, self.log)
+        World::checked(self.counts(), self.start, self.masks, self.log)
+    }
+
+    fn counts(&self) -> Counts {
+        Counts { fluents: self.fluents, actions: self.actions, domain: self.domain }
     }
 
     fn rule<'t>(&self, text: &'t [u8], kind: Kind) -> Result<Rule<'t>, Refusal> {
-        Rule::read(text, kind, self.fluents, self.actions)
+        Rule::read(text, kind, self.counts())
     }
 
     fn times(&self, then: usize, now: usize) -> Result<(), Refusal> {
@@ -84,7 +90,7 @@ impl<'a> Job<'a> {
         let rule = self.rule(test, Kind::Test)?;
         self.times(then, now)?;
         let tables = Tables::over(&world, world.log);
-        Ok(Evaluator::new(&rule, &tables).test(0, 1 << then, up_to(now)) != 0)
+        Ok(Evaluator::new(&rule, &tables).test(0, 1 << then, up_to(now), 0) != 0)
     }
 
     #[inline(always)]
@@ -95,7 +101,7 @@ impl<'a> Job<'a> {
         let tables = Tables::over(&world, world.log);
         let ask = |slots: &mut [u64]| {
             let mut quick = Quick::<COUNT>::new(&rule, &tables, slots);
-            (quick.test(0, 1 << then, up_to(now)) != 0, quick.visits)
+            (quick.test(0, 1 << then, up_to(now), 0) != 0, quick.visits)
         };
         Ok(if rule.keeps() { ask(&mut [0; 256]) } else { ask(&mut []) })
     }
@@ -117,7 +123,7 @@ impl<'a> Job<'a> {
         let rule = self.rule(walk, Kind::Walk)?;
         self.times(then, now)?;
         let tables = Tables::over(&world, world.log);
-        Ok(Reached::of(Evaluator::new(&rule, &tables).walk(0, 1 << then, up_to(now), false)))
+        Ok(Reached::of(Evaluator::new(&rule, &tables).walk(0, 1 << then, up_to(now), false, 0)))
     }
 
     #[inline(always)]
@@ -128,7 +134,7 @@ impl<'a> Job<'a> {
         let tables = Tables::over(&world, world.log);
         let ask = |slots: &mut [u64]| {
             let mut quick = Quick::<COUNT>::new(&rule, &tables, slots);
-            (Reached::of(quick.walk(0, 1 << then, up_to(now), false)), quick.visits)
+            (Reached::of(quick.walk(0, 1 << then, up_to(now), false, 0)), quick.visits)
         };
         Ok(if rule.keeps() { ask(&mut [0; 256]) } else { ask(&mut []) })
     }

@@ -3,13 +3,16 @@
 use crate::rule::Rule;
 use crate::world::World;
 
-/// The actions and the fluents that a rule names, anywhere in its text, bit i for number i.
+/// The actions and the fluents that a rule names, anywhere in its text, bit i for number i; a sum with every value.
 fn named(rule: &Rule) -> (u64, u32) {
-    let mut names = (0, 0);
+    let mut names: (u64, u32) = (0, 0);
+    let values = (1 << rule.domain) - 1;
     for (at, sign) in rule.text.iter().enumerate() {
         match sign {
             b'a' | b'r' => names.0 |= 1 << rule.named(at),
+            b'b' | b's' => names.0 |= values << rule.named(at),
             b'f' => names.1 |= 1 << rule.named(at),
+            b'g' => names.1 |= (values as u32) << rule.named(at),
             _ => {}
         }
     }

@@ -1,4 +1,5 @@
 //! The theory and the log: refusals 3 to 5, what an action needs and does, and the log transposed into words.
+use crate::rule::Counts;
 use crate::Refusal;
 
 pub const LOG_LIMIT: usize = 63;
@@ -26,15 +27,15 @@ pub fn after(m: &[u32], state: u32) -> u32 {
 }
 
 impl<'a> World<'a> {
-    pub fn checked(fluents: usize, actions: usize, start: u32, masks: &'a [u32], log: &'a [u8]) -> Result<Self, Refusal> {
-        if fluents > 32 || actions < 1 || actions > 64 || masks.len() != 4 * actions {
+    pub fn checked(c: Counts, start: u32, masks: &'a [u32], log: &'a [u8]) -> Result<Self, Refusal> {
+        if c.fluents > 32 || c.actions < 1 || c.actions > 64 || c.domain > 16 || masks.len() != 4 * c.actions {
             return Err(3);
         }
         let named = masks.iter().fold(start, |all, m| all | m);
-        if u64::from(named) >> fluents != 0 {
+        if u64::from(named) >> c.fluents != 0 {
             return Err(4);
         }
-        if log.len() > LOG_LIMIT || log.iter().any(|&a| usize::from(a) >= actions) {
+        if log.len() > LOG_LIMIT || log.iter().any(|&a| usize::from(a) >= c.actions) {
             return Err(5);
         }
         Ok(World { start, masks, log })

@@ -4,10 +4,15 @@
 mod make;
 
 use make::{Dice, Input};
+use oracle::rule::Counts;
 use plain::{Job, Reached};
 
 fn job(i: &Input) -> Job<'_> {
-    Job { fluents: i.fluents, actions: i.actions, start: i.start, masks: &i.masks, log: &i.log }
+    Job { fluents: i.fluents, actions: i.actions, domain: i.domain, start: i.start, masks: &i.masks, log: &i.log }
+}
+
+fn counts(i: &Input) -> Counts {
+    Counts { fluents: i.fluents, actions: i.actions, domain: i.domain }
 }
 
 fn place(d: &mut Dice, log: &[u8]) -> usize {
@@ -22,12 +27,12 @@ fn questions(d: &mut Dice, i: &Input) {
     let now = place(d, &i.log);
     let then = if now < 64 { d.below(now + 1) + d.below(2) * d.below(2) } else { 0 };
     let walk = make::rule(d, 1, i);
-    let other = oracle::ask::reach(i.fluents, i.actions, i.start, &i.masks, &i.log, &walk, then, now);
+    let other = oracle::ask::reach(counts(i), i.start, &i.masks, &i.log, &walk, then, now);
     let other = other.map(|r| Reached { set: r.set, count: r.count, earliest: r.earliest });
     assert_eq!(job(i).reach(&walk, then, now), other, "{i:?} {walk:?} {then} {now}");
     assert_eq!(job(i).quick_reach(&walk, then, now), other, "{i:?} {walk:?} {then} {now}, quick");
     let test = make::rule(d, 0, i);
-    let other = oracle::ask::verdict(i.fluents, i.actions, i.start, &i.masks, &i.log, &test, then, now);
+    let other = oracle::ask::verdict(counts(i), i.start, &i.masks, &i.log, &test, then, now);
     assert_eq!(job(i).verdict(&test, then, now), other, "{i:?} {test:?} {then} {now}");
     assert_eq!(job(i).quick_verdict(&test, then, now), other, "{i:?} {test:?} {then} {now}, quick");
 }
@@ -36,7 +41,7 @@ fn finishes(d: &mut Dice, i: &Input) {
     let text = make::rule(d, 2, i);
     let more = if d.once_in(20) { 7 } else { d.below(if i.actions > 6 { 3 } else { 5 }) };
     let room = more + d.below(3) - d.below(2).min(more);
-    let other = oracle::finish::finish(i.fluents, i.actions, i.start, &i.masks, &i.log, &text, more, room);
+    let other = oracle::finish::finish(counts(i), i.start, &i.masks, &i.log, &text, more, room);
     let mut expected = vec![0xa5; room];
     if let Ok(bytes) = &other {
         expected[..bytes.len()].copy_from_slice(bytes);

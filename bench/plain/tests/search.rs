@@ -4,7 +4,8 @@
 #[path = "../../../tests/compare/src/make.rs"]
 mod make;
 
-use make::Dice;
+use make::{Dice, Names};
+use oracle::rule::Counts;
 use plain::Job;
 
 const FLUENTS: usize = 4;
@@ -41,7 +42,7 @@ fn test(d: &mut Dice, depth: usize, actions: usize) -> String {
         1..=3 => format!("f{:02}", d.below(FLUENTS)),
         4 | 5 => format!("!{}", test(d, depth - 1, actions)),
         6 => format!("&{}{}", test(d, depth - 1, actions), test(d, depth - 1, actions)),
-        _ => format!("<{}{}", make::walk(d, depth - 1, FLUENTS, actions, false), test(d, depth - 1, actions)),
+        _ => format!("<{}{}", make::walk(d, depth - 1, &Names::plain(FLUENTS, actions), false), test(d, depth - 1, actions)),
     }
 }
 
@@ -90,6 +91,20 @@ fn text(d: &mut Dice, actions: usize, done: usize, more: usize) -> String {
     }
 }
 
+/// A job with binders, and the domain: any walk with them behind some steps, an end that some or each value has, a step and another that hang together by their value.
+fn some(d: &mut Dice, actions: usize) -> (String, usize) {
+    let domain = 1 + d.below(actions.min(FLUENTS));
+    let names = Names::plain(FLUENTS, actions).with(domain, 16);
+    let text = match d.below(5) {
+        0 => format!(";*n{}", make::walk(d, 4, &names, true)),
+        1 => format!(";*n?{}", make::test(d, 4, &names)),
+        2 => d.pick(&[";*n?!ev!g00v", ";*n?evg00v", "*pv;b00v?g00v", ";*npv;b00v?!g00v", ";*n?ev&!g00v<-;b00v*n1"]).to_string(),
+        3 => d.pick(&[";*npv;b00vb00v", ";*pv;b00v?evg00v?!ev!g00v", "pv*|b00v;n?g00v", ";*npvpw;b00v|b00wn"]).to_string(),
+        _ => make::walk(d, 6, &names, true),
+    };
+    (text, domain)
+}
+
 /// The length that was found, 7 for none, 8 for a refused text.
 fn ask(d: &mut Dice) -> usize {
     let actions = d.pick(&[1, 2, 2, 3, 3, 4, 6, 9]);
@@ -97,9 +112,9 @@ fn ask(d: &mut Dice) -> usize {
     let t = theory(d, actions);
     let log: Vec<u8> = (0..d.below(4)).map(|_| d.below(actions) as u8).collect();
     let more = most - d.below(2) * d.below(2);
-    let text = text(d, actions, log.len(), more);
-    let job = Job { fluents: FLUENTS, actions, start: t.start, masks: &t.masks, log: &log };
-    let other = oracle::finish::finish(FLUENTS, actions, t.start, &t.masks, &log, text.as_bytes(), more, 6);
+    let (text, domain) = if d.once_in(4) { some(d, actions) } else { (text(d, actions, log.len(), more), 0) };
+    let job = Job { fluents: FLUENTS, actions, domain, start: t.start, masks: &t.masks, log: &log };
+    let other = oracle::finish::finish(Counts { fluents: FLUENTS, actions, domain }, t.start, &t.masks, &log, text.as_bytes(), more, 6);
     let mut expected = [0xa5; 6];
     if let Ok(bytes) = &other {
         expected[..bytes.len()].copy_from_slice(bytes);
@@ -134,7 +149,7 @@ fn up_to_a_full_log() {
         let log: Vec<u8> = (0..57 + d.below(7)).map(|_| d.below(2) as u8).collect();
         let count = 1 + d.below(3);
         let text = format!(";*n{}", steps(&mut d, count, 2));
-        let job = Job { fluents: FLUENTS, actions: 2, start: t.start, masks: &t.masks, log: &log };
+        let job = Job { fluents: FLUENTS, actions: 2, domain: 0, start: t.start, masks: &t.masks, log: &log };
         let (mut out, mut other) = ([0; 6], [0; 6]);
         assert_eq!(job.quick_finish(text.as_bytes(), 6, &mut out), job.finish(text.as_bytes(), 6, &mut other), "{job:?} {text}");
         assert_eq!(out, other, "{job:?} {text}");

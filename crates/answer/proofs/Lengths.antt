@@ -8,7 +8,7 @@ use native.Mathlib.Omega.{arith}
 use lib.ListN.{length, length-append}
 use Rattle.refusal.specs.Number.{numberOf}
 use Rattle.refusal.specs.declared.Refusal.{Refusal}
-use Rattle.refusal.specs.declared.Refusal.the-variants.{SheetTooLong, BadLine, BadNumber, LacksFluent, BadLog, BadRule, LacksName, TooDeep, BackwardJob, BadPosition, NoFinish, ShortOutput}
+use Rattle.refusal.specs.declared.Refusal.the-variants.{SheetTooLong, BadLine, BadNumber, LacksFluent, BadLog, BadRule, LacksName, TooDeep, BackwardJob, BadPosition, NoFinish, ShortOutput, Unbound}
 use Rattle.meaning.specs.Limits.{moreLimit}
 use Rattle.spelling.specs.Numeral.{hex8}
 use Rattle.spelling.proofs.Numeral.{length-numeral}
@@ -56,3 +56,4 @@ number-small BackwardJob = omega arith
 number-small BadPosition = omega arith
 number-small NoFinish = omega arith
 number-small ShortOutput = omega arith
+number-small Unbound = omega arith

@@ -15,22 +15,28 @@ use Rattle.meaning.specs.Reach.{countOf, earliestOf, SetWord}
 use Rattle.meaning.specs.Refusal.{Accepted}
 use Rattle.positions.specs.declared.PositionSet.{PositionSet}
 use Rattle.positions.specs.Positions.{holds}
-use Rattle.theory.specs.Subject.{Subject, worldOf}
+use Rattle.theory.specs.Subject.{Subject, countsOf, worldOf}
 use Rattle.rule.specs.Standing.{Stands}
 use Rattle.ask.specs.Image.{UpTo}
+use Rattle.ask.specs.Values.{unbound}
 use Rattle.ask.specs.Found.{WalkHere, TestHere, Tabled, LaidOut, WalkFound, TestFound}
 use Rattle.ask.specs.Rows.{askRows}
 use Rattle.ask.specs.Reach.{WalkReached}
 use Rattle.ask.specs.Verdict.{Verdict, TestJudged}
+use Rattle.ask.proofs.Bound.{bears-none}
 use Rattle.ask.proofs.Loops.{one-there}
 use Rattle.ask.proofs.Asking.{stands-first, asked-readable, asked-times, asked-walk, asked-test}
+
+-- no variable is bound where a question is asked
+abbrev values : Subject → List ℕ
+values s = unbound (countsOf s .domain)
 
 -- A question that no check refuses, laid out for the evaluator; the one position is then.
 module _ {kind : Kind} {s : Subject} {bytes ends rows : List ℕ} {then now : ℕ}
     (a : Accepted (askRows kind s bytes then now)) (laid : LaidOut s bytes ends rows)
     (one : PositionSet) (at : (q : ℕ) → holds one q ≡ (eqb then q && ltb q places)) where
-  tabled : Tabled (worldOf s) rows now
-  tabled = record { described = laid .described; logged = asked-times a .1; room = asked-readable a .short }
+  tabled : Tabled (worldOf s) rows (values s) now
+  tabled = record { described = laid .described; logged = asked-times a .1; room = asked-readable a .short; bears = bears-none (worldOf s) refl }
 
   alone : (q : ℕ) → (holds one q ≡ true) ↔ (q ≡ then)
   alone = one-there then one (omega (arith, asked-times a, asked-readable a .short)) at
@@ -39,7 +45,7 @@ module _ {kind : Kind} {s : Subject} {bytes ends rows : List ℕ} {then now : �
   early q h = omega (arith, asked-times a .0, alone q .0 h)
 
   -- what the walk leads to from then
-  led : (found : PositionSet) (x : Walk) → Stands bytes 0 (ofWalk x) → WalkFound bytes 0 false rows now (holds one) (holds found)
+  led : (found : PositionSet) (x : Walk) → Stands bytes 0 (ofWalk x) → WalkFound bytes 0 false rows (values s) now (holds one) (holds found)
       → (q : ℕ) → (holds found q ≡ true) ↔ Leads (worldOf s) x then q now
   led found x h f q =
       let i = f .found (worldOf s) tabled early x h in (
@@ -50,7 +56,7 @@ module _ {kind : Kind} {s : Subject} {bytes ends rows : List ℕ} {then now : �
       )
 
   -- the test is true at then
-  kept-there : (kept : PositionSet) (t : Test) → Stands bytes 0 (ofTest t) → TestFound bytes 0 rows now (holds one) (holds kept)
+  kept-there : (kept : PositionSet) (t : Test) → Stands bytes 0 (ofTest t) → TestFound bytes 0 rows (values s) now (holds one) (holds kept)
       → (holds kept then ≡ true) ↔ Holds (worldOf s) t then now
   kept-there kept t h f =
       let i = f .found (worldOf s) tabled early t h in
@@ -66,7 +72,7 @@ module _ {s : Subject} {bytes ends rows : List ℕ} {then now : ℕ} where
 
   -- reach
   pub reach-right : (a : Accepted (askRows walkKind s bytes then now)) → LaidOut s bytes ends rows → (one found : PositionSet)
-      → ((q : ℕ) → holds one q ≡ (eqb then q && ltb q places)) → WalkFound bytes 0 false rows now (holds one) (holds found)
+      → ((q : ℕ) → holds one q ≡ (eqb then q && ltb q places)) → WalkFound bytes 0 false rows (values s) now (holds one) (holds found)
       → {set count earliest : ℕ} → SetWord (holds found) set → count ≡ countOf (holds found) → earliest ≡ earliestOf (holds found)
       → WalkReached s bytes then now set count earliest
   reach-right a laid one found at f word c e =
@@ -83,7 +89,7 @@ module _ {s : Subject} {bytes ends rows : List ℕ} {then now : ℕ} where
 
   -- verdict
   pub verdict-right : (a : Accepted (askRows testKind s bytes then now)) → LaidOut s bytes ends rows → (one kept : PositionSet)
-      → ((q : ℕ) → holds one q ≡ (eqb then q && ltb q places)) → TestFound bytes 0 rows now (holds one) (holds kept)
+      → ((q : ℕ) → holds one q ≡ (eqb then q && ltb q places)) → TestFound bytes 0 rows (values s) now (holds one) (holds kept)
       → (has : Bool) → has ≡ holds kept then → TestJudged s bytes then now (some has)
   verdict-right a laid one kept at f has e =
       let (t, o) = asked-test a in

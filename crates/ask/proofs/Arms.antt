@@ -5,13 +5,15 @@ use mathlib.Core.Logic.{_↔_}
 use mathlib.Core.Bool.{Bool, true, false, not, _&&_}
 use Prim.Native.Nat.{ℕ, _+_, _≤_, _<_}
 use native.Mathlib.Omega.{arith}
-use Rattle.meaning.specs.Theory.{World, stateAt}
-use Rattle.meaning.specs.Rule.{Walk, Test, act, undo, next, prev, alt, star, check, conv, always, fluent, neg, both, diamond}
+use Rattle.meaning.specs.Theory.{World, bind, numberIn, stateAt}
+use Rattle.meaning.specs.Rule.{Variable, Name, Walk, Test, act, undo, next, prev, alt, star, check, conv, pick, always, fluent, neg, both, diamond, walkFree}
 use Rattle.laws.specs.Bit.{on}
-use Rattle.meaning.specs.Leads.{Leads, Holds, Step, AnyStep, Or, Many, Chain, stay, link, Here}
+use Rattle.meaning.specs.Leads.{Leads, Holds, Step, AnyStep, Or, Many, Chain, stay, link, Here, Pick}
 use Rattle.meaning.proofs.Chain.{Within, chain-append, chain-one}
 use Rattle.meaning.proofs.Bounds.{leads-within, back-within}
 use Rattle.meaning.proofs.Converse.{back-exchanged}
+use Rattle.meaning.proofs.Normal.{at-places}
+use Rattle.meaning.proofs.Written.{leads-idle, back-idle}
 use Rattle.theory.specs.Tables.{TakenAt}
 use Rattle.ask.specs.Image.{Set, UpTo, Image, Sifted, Turn, Way, Crossing}
 use Rattle.laws.proofs.Truth.{and-iff}
@@ -21,7 +23,7 @@ pub way-within : (w : World) (x : Walk) (back : Bool) → Within (Way w x back)
 way-within w x false = leads-within w x
 way-within w x true = back-within w x
 
--- `aNN`, `rNN`: of the positions before now, those whose step is NN and was possible
+-- `aNN`, `rNN`, `bNNv`, `sNNv`: of the positions before now, those whose step is what the name stands for and was possible
 abbrev pub Done : World → ℕ → ℕ → Set → Type 0
 Done w a n c = (p : ℕ) → p < n → (c p ≡ true) ↔ TakenAt w p a
 
@@ -34,15 +36,15 @@ step-crossing w a n c done p q = (
   λ h. (h .onward, h .within, done p (omega arith) .1 (h .logged, h .able)),
 )
 
-pub act-image : (w : World) (a : ℕ) (back : Bool) {n : ℕ} {c s r : Set} → Done w a n c → Image (Turn back (Crossing c)) n s r → Image (Way w (act a) back) n s r
+pub act-image : (w : World) (a : Name) (back : Bool) {n : ℕ} {c s r : Set} → Done w (numberIn w a) n c → Image (Turn back (Crossing c)) n s r → Image (Way w (act a) back) n s r
 unfolding Leads
-act-image w a false {n} {c} done i = image-same (step-crossing w a n c done) i
-act-image w a true {n} {c} done i = image-same (λ p q. step-crossing w a n c done q p) i
+act-image w a false {n} {c} done i = image-same (step-crossing w (numberIn w a) n c done) i
+act-image w a true {n} {c} done i = image-same (λ p q. step-crossing w (numberIn w a) n c done q p) i
 
-pub undo-image : (w : World) (a : ℕ) (back : Bool) {n : ℕ} {c s r : Set} → Done w a n c → Image (Turn (not back) (Crossing c)) n s r → Image (Way w (undo a) back) n s r
+pub undo-image : (w : World) (a : Name) (back : Bool) {n : ℕ} {c s r : Set} → Done w (numberIn w a) n c → Image (Turn (not back) (Crossing c)) n s r → Image (Way w (undo a) back) n s r
 unfolding Leads
-undo-image w a false {n} {c} done i = image-same (λ p q. step-crossing w a n c done q p) i
-undo-image w a true {n} {c} done i = image-same (step-crossing w a n c done) i
+undo-image w a false {n} {c} done i = image-same (λ p q. step-crossing w (numberIn w a) n c done q p) i
+undo-image w a true {n} {c} done i = image-same (step-crossing w (numberIn w a) n c done) i
 
 -- `n`, `u`: of the positions before now, those whose step was possible
 abbrev pub AnyDone : World → ℕ → Set → Type 0
@@ -88,6 +90,17 @@ unfolding Leads
 conv-way w x false p q n = (λ h. h, λ h. h)
 conv-way w x true p q n = (λ h. h, λ h. h)
 
+-- `pvW`: with some value, the same way
+pub pick-way : (w : World) (v : Variable) (x : Walk) (back : Bool) (p q n : ℕ) → Way w (pick v x) back p q n ↔ Pick (w .domain) (λ k. Way (bind w v k) x back) p q n
+unfolding Leads
+pick-way w v x false p q n = (λ h. h, λ h. h)
+pick-way w v x true p q n = (λ h. h, λ h. h)
+
+-- a variable that does not stand free in it: its value does not matter
+pub way-idle : (w : World) (v : Variable) (k : ℕ) (x : Walk) (back : Bool) → walkFree v x ≡ false → (p q n : ℕ) → Way (bind w v k) x back p q n ↔ Way w x back p q n
+way-idle w v k x false e p q n = at-places (leads-idle w v k x e) p q n
+way-idle w v k x true e p q n = at-places (back-idle w v k x e) p q n
+
 -- a chain with one more link; `**W` is `*W`
 pub star-more : (w : World) (x : Walk) (back : Bool) (p m q n : ℕ) → Way w (star x) back p m n → Way w x back m q n → Way w (star x) back p q n
 star-more w x back p m q n chain step =
@@ -100,12 +113,12 @@ stars-flat w x back p q n h = star-way w x back p q n .1 (flat (star-way w (star
     flat (stay e low) = stay e low
     flat (link {p = p} {m = m} chain rest) = chain-append (star-way w x back p m n .0 chain) (flat rest)
 
--- `1`, `fNN`, `!T`, `&TU`
+-- `1`, `fNN` and `gNNv`, `!T`, `&TU`
 pub always-keeps : (w : World) {n : ℕ} {s : Set} → Sifted (Holds w always) n s s
 unfolding Leads
 always-keeps w = always-sifted
 
-pub fluent-keeps : (w : World) (i : ℕ) {n : ℕ} {s l r : Set} → UpTo n s → ((q : ℕ) → q ≤ n → (l q ≡ true) ↔ (on (stateAt w q) i ≡ true))
+pub fluent-keeps : (w : World) (i : Name) {n : ℕ} {s l r : Set} → UpTo n s → ((q : ℕ) → q ≤ n → (l q ≡ true) ↔ (on (stateAt w q) (numberIn w i) ≡ true))
     → ((q : ℕ) → r q ≡ (s q && l q)) → Sifted (Holds w (fluent i)) n s r
 unfolding Leads
 fluent-keeps w i {n} {s} {l} low lit meet = record {

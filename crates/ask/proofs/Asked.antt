@@ -11,8 +11,8 @@ use Rattle.laws.proofs.Truth.{off-on, true-or-false, and-iff}
 use Rattle.laws.proofs.On.{on-none}
 use Rattle.laws.proofs.Shift.{on-ones}
 use Rattle.meaning.specs.Limits.{actionLimit}
-use Rattle.meaning.specs.Theory.{World}
-use Rattle.meaning.specs.Rule.{Walk, Test, act, undo, next, prev, check, conv}
+use Rattle.meaning.specs.Theory.{World, numberIn}
+use Rattle.meaning.specs.Rule.{Name, Walk, Test, act, undo, next, prev, check, conv}
 use Rattle.meaning.specs.Asks.{AsksAt}
 use Rattle.ask.specs.Asked.{AskedBy}
 use Rattle.ask.specs.Image.{Set}
@@ -22,14 +22,14 @@ none-asked : (may : ℕ → Bool) (w : World) (at : ℕ) (x : Walk) (n : ℕ) (f
     → AskedBy may w at x n from 0
 none-asked may w at x n from quiet a h = (λ e. absurd (off-on (on-none a) e), λ u. absurd (quiet (u .0) a (u .1) (u .2)))
 
--- `aNN`: NN, if the sign may ask and the set holds now
-pub act-asked : (may : ℕ → Bool) (w : World) (at b n : ℕ) (from : Set) (asked : ℕ) → ((a : ℕ) → a < actionLimit → on asked a ≡ eqb a b)
+-- `aNN`, `bNNv`: what the name stands for, if the sign may ask and the set holds now
+pub act-asked : (may : ℕ → Bool) (w : World) (at : ℕ) (b : Name) (n : ℕ) (from : Set) (asked : ℕ) → ((a : ℕ) → a < actionLimit → on asked a ≡ eqb a (numberIn w b))
     → AskedBy may w at (act b) n from (cond (may at && from n) asked 0)
 unfolding AsksAt
 act-asked may w at b n from asked bit = elim (true-or-false (may at && from n)) [
   | inl both ↦
       let u = and-iff (may at) (from n) .0 both in
-      rw both λ a h. (λ e. (n, u .1, (u .0, refl, eqb-true a b (sym (bit a h) ∙ e))), λ k. bit a h ∙ eq-eqb a b (k .2 .2))
+      rw both λ a h. (λ e. (n, u .1, (u .0, refl, eqb-true a (numberIn w b) (sym (bit a h) ∙ e))), λ k. bit a h ∙ eq-eqb a (numberIn w b) (k .2 .2))
   | inr not ↦ rw not (none-asked may w at (act b) n from λ p a h u.
       off-on not (and-iff (may at) (from n) .1 (u .0, subst (λ (i : ℕ). from i ≡ true) (u .1) h)))
 ]
@@ -50,7 +50,7 @@ pub check-asked : (may : ℕ → Bool) (w : World) (at : ℕ) (t : Test) (n : �
 unfolding AsksAt
 check-asked may w at t n from = none-asked may w at (check t) n from λ p a h u. u
 
-pub undo-asked : (may : ℕ → Bool) (w : World) (at b n : ℕ) (from : Set) → AskedBy may w at (undo b) n from 0
+pub undo-asked : (may : ℕ → Bool) (w : World) (at : ℕ) (b : Name) (n : ℕ) (from : Set) → AskedBy may w at (undo b) n from 0
 unfolding AsksAt
 undo-asked may w at b n from = none-asked may w at (undo b) n from λ p a h u. u
 

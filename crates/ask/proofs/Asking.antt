@@ -44,16 +44,16 @@ module _ (kind : Kind) (s : Subject) (bytes : List ℕ) (then now : ℕ) where
       (accepted-both rule-part (timeRows s then now) (not-rest b) (passes (⊎-elim (λ h. omega arith) (λ h. omega arith)) accepts))
 
 -- the bytes spell a rule of the kind, and one only
-whole : (kind : Kind) (bytes : List ℕ) → (BadRule kind bytes → ⊥) → (r : Rule) × Opens kind bytes r []
-whole kind bytes fine = go (opens? kind bytes)
+whole : (domain : ℕ) (kind : Kind) (bytes : List ℕ) → (BadRule domain kind bytes → ⊥) → (r : Rule) × Opens kind bytes r []
+whole domain kind bytes fine = go (opens? kind bytes)
   where
     exact : (r : Rule) (rest : List ℕ) → Opens kind bytes r rest → (r : Rule) × Opens kind bytes r []
     exact r [] o = (r, o)
-    exact r (b ∷ rest) o = absurd (fine (inr (inr (λ q p. let e = unique-reading o p .1 in absurd (omega (arith, ap length e))))))
+    exact r (b ∷ rest) o = absurd (fine (inr (inr (λ q p allowed. let e = unique-reading o p .1 in absurd (omega (arith, ap length e))))))
 
     go : ((r : Rule) × (rest : List ℕ) × Opens kind bytes r rest) ⊎ ((r : Rule) (rest : List ℕ) → Opens kind bytes r rest → ⊥) → (r : Rule) × Opens kind bytes r []
     go (inl h) = exact (h .0) (h .1) (h .2)
-    go (inr none) = absurd (fine (inr (inr (λ r. none r []))))
+    go (inr none) = absurd (fine (inr (inr (λ r o allowed. none r [] o))))
 
 walk-of : (bytes : List ℕ) (r : Rule) → Opens walkKind bytes r [] → (x : Walk) × Opens walkKind bytes (ofWalk x) []
 walk-of bytes (ofWalk x) o = (x, o)
@@ -75,7 +75,7 @@ module _ {kind : Kind} {s : Subject} {bytes : List ℕ} {then now : ℕ} (a : Ac
   ruled : Accepted (textRows true kind bytes (countsOf s)) × Accepted (timeRows s then now)
   ruled = accepted-parts (textRows true kind bytes (countsOf s)) (timeRows s then now) (parts .1)
 
-  fine-rule : BadRule kind bytes → ⊥
+  fine-rule : BadRule (countsOf s .domain) kind bytes → ⊥
   fine-rule = not-first (ruled .0)
 
   pub asked-readable : Readable (s .masks) (s .log)
@@ -96,7 +96,7 @@ module _ {kind : Kind} {s : Subject} {bytes : List ℕ} {then now : ℕ} (a : Ac
 -- the walk that is asked, and the test
 module _ {s : Subject} {bytes : List ℕ} {then now : ℕ} where
   pub asked-walk : Accepted (askRows walkKind s bytes then now) → (x : Walk) × Opens walkKind bytes (ofWalk x) []
-  asked-walk a = let (r, o) = whole walkKind bytes (fine-rule a) in walk-of bytes r o
+  asked-walk a = let (r, o) = whole (countsOf s .domain) walkKind bytes (fine-rule a) in walk-of bytes r o
 
   pub asked-test : Accepted (askRows testKind s bytes then now) → (t : Test) × Opens testKind bytes (ofTest t) []
-  asked-test a = let (r, o) = whole testKind bytes (fine-rule a) in test-of bytes r o
+  asked-test a = let (r, o) = whole (countsOf s .domain) testKind bytes (fine-rule a) in test-of bytes r o

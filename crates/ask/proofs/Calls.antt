@@ -1,20 +1,25 @@
 -- The evaluator's calls over the text: from a rule that stands at a place, and its sign, the parts that stand behind it, each further on. Knows the table of
 -- ends; no set and no world.
-use mathlib.Core.Path.{_≡_, refl, subst, subst⁻¹}
+use mathlib.Core.Path.{_≡_, refl, ap, subst, subst⁻¹, _∙_}
 use mathlib.Core.Bool.{Bool, true, false, cond}
 use mathlib.Core.List.{List}
 use Prim.Native.Nat.{ℕ, _+_, _≤_, _<_}
 use native.Mathlib.Omega.{arith}
 use native.Mathlib.Decide.{decLt}
 use lib.ListN.{length, getD, List·getD-eq-default}
-use Rattle.meaning.specs.Rule.{Walk, Test, Rule, ofWalk, ofTest, text}
+use Rattle.meaning.specs.Rule.{Variable, Walk, Test, Rule, ofWalk, ofTest, text}
 use Rattle.meaning.specs.Limits.{textLimit}
+use Rattle.spelling.specs.declared.Digits.the-variants.{Number}
+use Rattle.spelling.specs.Scan.{NumberAt}
 use Rattle.rule.specs.Ends.{FillOutcome}
+use Rattle.rule.specs.Letters.{Lettered}
 use Rattle.rule.specs.Standing.{Stands, Ends, Leaf}
+use Rattle.ask.specs.Values.{SumHere, BinderHere}
 use Rattle.ask.specs.Found.{WalkHere, TestHere, LeafHere, Numbered, noEnds}
 use Rattle.rule.proofs.Widths.{ends-told}
 use Rattle.rule.proofs.Spread.{Spread, spread}
 use Rattle.rule.proofs.Spread.{act-at, undo-at, next-at, prev-at, seq-at, alt-at, star-at, check-at, conv-at, always-at, fluent-at, neg-at, both-at, diamond-at}
+use Rattle.rule.proofs.Spread.{sum-act-at, sum-undo-at, pick-at, sum-fluent-at, exists-at, inside}
 
 -- a table that was empty, filled for a text of a rule's length, is the text's
 pub ends-marked : {bytes before after : List ℕ} → length bytes ≤ textLimit → before ≡ noEnds → FillOutcome bytes before after → Ends bytes after
@@ -56,6 +61,31 @@ test-behind m f y h = record {
   inside = end-inside m f (omega arith);
   there = λ other e. (omega (arith, end-after m f other e), record { test = y; stands = end-stands m f other e h; marked = m });
 }
+
+-- A binder: its letter, and where its part ends.
+pub record Binder (bytes : List ℕ) (at end : ℕ) : Type 0 where
+  pub onward : at + 2 ≤ end
+  pub here : BinderHere bytes at end
+
+binder : {bytes ends : List ℕ} {at : ℕ} → Ends bytes ends → (v : Variable) (x : Rule) → Lettered bytes (at + 1) v → Stands bytes (at + 2) x → (end : ℕ)
+    → end ≡ getD ends (at + 1 + 1) 0 → Binder bytes at end
+binder {bytes} {ends} {at} m v x l p end read =
+    let same : at + 1 + 1 ≡ at + 2 = omega arith in
+    let there : end ≡ getD ends (at + 2) 0 = read ∙ ap (λ (i : ℕ). getD ends i 0) same in
+    record {
+      onward = omega (arith, there, m .each (at + 2) x p);
+      here = record {
+        letter = record { variable = v; stands = l };
+        inside = omega (arith, there, m .each (at + 2) x p, inside p);
+        ends = λ y s. there ∙ m .each (at + 2) y s;
+      };
+    }
+
+-- a number with a variable's letter behind it
+pub sum-here : (bytes : List ℕ) (at n : ℕ) (v : Variable) → NumberAt bytes (at + 1) (Number n) → Lettered bytes (at + 3) v → SumHere bytes (at + 1)
+sum-here bytes at n v d l =
+    let same : at + 3 ≡ at + 1 + 2 = omega arith in
+    record { number = n; digits = d; letter = record { variable = v; stands = subst (λ (i : ℕ). Lettered bytes i v) same l } }
 
 -- The parts of a walk.
 module _ {bytes ends : List ℕ} {at : ℕ} (h : WalkHere bytes ends at) where
@@ -110,6 +140,19 @@ module _ {bytes ends : List ℕ} {at : ℕ} (h : WalkHere bytes ends at) where
       go : {r : Rule} → Spread bytes at 45 r → WalkHere bytes ends (at + 1)
       go (conv-at w p) = walk-one p
 
+  -- a binder's part, behind its letter
+  pub pick-part : getD bytes at 0 ≡ 112 → WalkHere bytes ends (at + 2)
+  pick-part e = go (spread (h .stands) 112 e)
+    where
+      go : {r : Rule} → Spread bytes at 112 r → WalkHere bytes ends (at + 2)
+      go (pick-at v w l p) = record { walk = w; stands = p; marked = h .marked }
+
+  pub pick-binder : getD bytes at 0 ≡ 112 → (end : ℕ) → end ≡ getD ends (at + 1 + 1) 0 → Binder bytes at end
+  pick-binder e end there = go (spread (h .stands) 112 e)
+    where
+      go : {r : Rule} → Spread bytes at 112 r → Binder bytes at end
+      go (pick-at v w l p) = binder (h .marked) v (ofWalk w) l p end there
+
 -- The parts of a test.
 module _ {bytes ends : List ℕ} {at : ℕ} (h : TestHere bytes ends at) where
   pub fluent-number : getD bytes at 0 ≡ 102 → Numbered bytes (at + 1)
@@ -148,6 +191,24 @@ module _ {bytes ends : List ℕ} {at : ℕ} (h : TestHere bytes ends at) where
       go : {r : Rule} → Spread bytes at 60 r → Behind ends at (TestHere bytes ends)
       go (diamond-at w t p q) = test-behind (h .marked) p t q
 
+  pub sum-fluent-here : getD bytes at 0 ≡ 103 → SumHere bytes (at + 1)
+  sum-fluent-here e = go (spread (h .stands) 103 e)
+    where
+      go : {r : Rule} → Spread bytes at 103 r → SumHere bytes (at + 1)
+      go (sum-fluent-at i v d l) = sum-here bytes at i v d l
+
+  pub exists-part : getD bytes at 0 ≡ 101 → TestHere bytes ends (at + 2)
+  exists-part e = go (spread (h .stands) 101 e)
+    where
+      go : {r : Rule} → Spread bytes at 101 r → TestHere bytes ends (at + 2)
+      go (exists-at v t l p) = record { test = t; stands = p; marked = h .marked }
+
+  pub exists-binder : getD bytes at 0 ≡ 101 → (end : ℕ) → end ≡ getD ends (at + 1 + 1) 0 → Binder bytes at end
+  exists-binder e end there = go (spread (h .stands) 101 e)
+    where
+      go : {r : Rule} → Spread bytes at 101 r → Binder bytes at end
+      go (exists-at v t l p) = binder (h .marked) v (ofTest t) l p end there
+
 -- Where the other signs do not stand, a walk has no part, and a test is a `<`.
 abbrev pub NoSign : List ℕ → ℕ → ℕ → Type 0
 NoSign bytes at sign = getD bytes at 0 ≡ sign → ⊥
@@ -158,17 +219,19 @@ pub record NoParts (bytes : List ℕ) (at : ℕ) : Type 0 where
   pub no-star : NoSign bytes at 42
   pub no-check : NoSign bytes at 63
   pub no-conv : NoSign bytes at 45
+  pub no-pick : NoSign bytes at 112
 
--- as a `match` on the five signs leaves it
+-- as a `match` on the six signs leaves it
 pub left-over : {bytes : List ℕ} {at : ℕ}
-    → (((((Unit {0} × NoSign bytes at 59) × NoSign bytes at 124) × NoSign bytes at 42) × NoSign bytes at 63) × NoSign bytes at 45)
+    → ((((((Unit {0} × NoSign bytes at 59) × NoSign bytes at 124) × NoSign bytes at 42) × NoSign bytes at 63) × NoSign bytes at 45) × NoSign bytes at 112)
     → NoParts bytes at
 left-over none = record {
-  no-seq = none .0 .0 .0 .0 .1;
-  no-alt = none .0 .0 .0 .1;
-  no-star = none .0 .0 .1;
-  no-check = none .0 .1;
-  no-conv = none .1;
+  no-seq = none .0 .0 .0 .0 .0 .1;
+  no-alt = none .0 .0 .0 .0 .1;
+  no-star = none .0 .0 .0 .1;
+  no-check = none .0 .0 .1;
+  no-conv = none .0 .1;
+  no-pick = none .1;
 }
 
 pub no-parts : {bytes : List ℕ} {at : ℕ} → NoParts bytes at → (x : Walk) → Stands bytes at (ofWalk x) → Leaf x
@@ -184,13 +247,16 @@ no-parts {bytes} {at} none x h = go (spread h (getD bytes at 0) refl) refl
     go (star-at w p) e = none .no-star e
     go (check-at t p) e = none .no-check e
     go (conv-at w p) e = none .no-conv e
+    go (sum-act-at a v d l) e = tt
+    go (sum-undo-at a v d l) e = tt
+    go (pick-at v w l p) e = none .no-pick e
 
 pub leaf-part : {bytes ends : List ℕ} {at : ℕ} → WalkHere bytes ends at → NoParts bytes at → LeafHere bytes at
 leaf-part h none = record { walk = h .walk; stands = h .stands; leaf = no-parts none (h .walk) (h .stands) }
 
 pub last-sign : {bytes ends : List ℕ} {at : ℕ} → TestHere bytes ends at → NoSign bytes at 49 → NoSign bytes at 102 → NoSign bytes at 33 → NoSign bytes at 38
-    → getD bytes at 0 ≡ 60
-last-sign {bytes} {at = at} h no-always no-fluent no-neg no-both = go (spread (h .stands) (getD bytes at 0) refl) refl
+    → NoSign bytes at 103 → NoSign bytes at 101 → getD bytes at 0 ≡ 60
+last-sign {bytes} {at = at} h no-always no-fluent no-neg no-both no-sum no-exists = go (spread (h .stands) (getD bytes at 0) refl) refl
   where
     go : {b : ℕ} {y : Test} → Spread bytes at b (ofTest y) → getD bytes at 0 ≡ b → getD bytes at 0 ≡ 60
     go always-at e = absurd (no-always e)
@@ -198,3 +264,5 @@ last-sign {bytes} {at = at} h no-always no-fluent no-neg no-both = go (spread (h
     go (neg-at t p) e = absurd (no-neg e)
     go (both-at t u p q) e = absurd (no-both e)
     go (diamond-at w t p q) e = e
+    go (sum-fluent-at i v d l) e = absurd (no-sum e)
+    go (exists-at v t l p) e = absurd (no-exists e)

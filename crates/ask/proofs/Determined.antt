@@ -2,7 +2,7 @@
 use mathlib.Core.Path.{_≡_, refl, sym, ap, subst, _∙_}
 use mathlib.Core.Logic.{inl, inr}
 use mathlib.Core.Bool.{Bool, true, false, true≢false}
-use mathlib.Core.List.{List, []}
+use mathlib.Core.List.{List, [], _∷_}
 use mathlib.Core.Option.{Option}
 use Prim.Native.Nat.{ℕ, _^_, _<_}
 use native.Mathlib.Decide.{decLt}
@@ -21,6 +21,7 @@ use Rattle.laws.proofs.Truth.{same-truth}
 use Rattle.theory.specs.Subject.{Subject, worldOf}
 use Rattle.refusal.proofs.Numbers.{one-number, some-number}
 use Rattle.ask.specs.Asked.{EndTold, AskTold}
+use Rattle.ask.specs.Values.{unbound}
 use Rattle.ask.specs.Found.{Tabled, WalkHere}
 use Rattle.ask.specs.declared.ReachAnswer.{ReachAnswer}
 use Rattle.ask.specs.declared.ReachAnswer.the-variants.{Refused, Reached}
@@ -80,19 +81,19 @@ module _ (s : Subject) (bytes : List ℕ) (then now : ℕ) where
       let other = subst (λ (t : Test). Verdict (worldOf s) t then now (verdictGiven b)) e (q .judged) in
       same-verdict a b n (one-verdict (worldOf s) (r .test) then now (r .judged) other))
 
-  -- the numbers of both calls rise
-  pub ask-rises : (kind : Kind) → falls (askRows kind s bytes then now) ≡ []
+  -- the numbers of both calls rise but at one place: 13 stands "between 9 and 10"
+  pub ask-rises : (kind : Kind) → falls (askRows kind s bytes then now) ≡ (13, 10) ∷ []
   ask-rises kind = refl
 
 -- What a job has come to, and what it asks for: its text stands there, and the rows are those of a log, so two answers are one.
-module _ {job ends rows : List ℕ} {end : ℕ} (here : WalkHere job ends 0) (w : World) (tabled : Tabled w rows end) where
-  pub ended-determined : (a b : Bool) → EndTold job rows end a → EndTold job rows end b → a ≡ b
+module _ {job ends rows : List ℕ} {domain end : ℕ} (here : WalkHere job ends 0) (w : World) (tabled : Tabled w rows (unbound domain) end) where
+  pub ended-determined : (a b : Bool) → EndTold job domain rows end a → EndTold job domain rows end b → a ≡ b
   ended-determined a b f g =
       let i = f .each w tabled (here .walk) (here .stands) in
       let j = g .each w tabled (here .walk) (here .stands) in
       same-truth a b (λ k. j .1 (i .0 k)) (λ k. i .1 (j .0 k))
 
-  pub asked-determined : {may : ℕ → Bool} (a b : ℕ) → a < 2 ^ actionLimit → b < 2 ^ actionLimit → AskTold may job rows end a → AskTold may job rows end b → a ≡ b
+  pub asked-determined : {may : ℕ → Bool} (a b : ℕ) → a < 2 ^ actionLimit → b < 2 ^ actionLimit → AskTold may job domain rows end a → AskTold may job domain rows end b → a ≡ b
   asked-determined a b short short′ f g = same-bits a b (λ i. elim (decLt i actionLimit) [
     | yes low ↦
         let u = f .each w tabled (here .walk) (here .stands) i low in

@@ -13,7 +13,7 @@ use Rattle.laws.proofs.Truth.{off-on}
 use Rattle.laws.proofs.On.{on-none}
 use Rattle.meaning.specs.Reach.{SetWord}
 use Rattle.ask.specs.Image.{Set}
-use Rattle.ask.specs.Slots.{slot, Outside, Stored, Cleared, StarsTo}
+use Rattle.ask.specs.Slots.{slot, Outside, Stored, Cleared, Forgotten, StarsTo}
 
 -- an empty slot has nothing, and a slot that is not lent is empty
 pub empty-slot : (slots : List ℕ) (i : ℕ) → getD slots i 0 ≡ 0 → (q : ℕ) → slot slots i q ≡ false
@@ -103,6 +103,38 @@ module _ (bytes before : List ℕ) (from : ℕ) where
       go : (j : ℕ) → from ≤ j → getD bytes j 0 ≡ 42 → Dec (j < i) → getD after j 0 ≡ 0
       go j low e (yes h) = c .stars j low h e
       go j low e (no h) = no-slot after (omega arith)
+
+-- a stretch that is forgotten, place by place
+module _ (before : List ℕ) (from : ℕ) where
+  pub forgotten-none : Forgotten before from from before
+  forgotten-none = record { none = λ j low high. absurd (omega arith); outside = outside-none }
+
+  pub forgotten-one : {i : ℕ} {after : List ℕ} → from ≤ i → i < length after → Forgotten before from i after → Forgotten before from (i + 1) (set after i 0)
+  forgotten-one {i} {after} onward lent f = record {
+    none = λ j low high. go j low high (ℕ-discrete j i);
+    outside = record {
+      same = λ j h. getD-set-other after i j 0 0 (λ e. ⊎-elim (λ l. omega (arith, e, l)) (λ l. omega (arith, e, l)) h)
+          ∙ f .outside .same j (⊎-elim inl (λ l. inr (omega (arith, l))) h);
+    };
+  }
+    where
+      go : (j : ℕ) → from ≤ j → j < i + 1 → Dec (j ≡ i) → getD (set after i 0) j 0 ≡ 0
+      go j low high (yes h) = subst (λ (k : ℕ). getD (set after i 0) k 0 ≡ 0) (sym h) (getD-set-same after i 0 0 lent)
+      go j low high (no h) = getD-set-other after i j 0 0 h ∙ f .none j low (omega arith)
+
+  pub forgotten-to : {i to : ℕ} {after : List ℕ} → i ≡ to → Forgotten before from i after → Forgotten before from to after
+  forgotten-to {after = after} e f = subst (λ (k : ℕ). Forgotten before from k after) e f
+
+  -- where the table ends, the rest has nothing
+  pub forgotten-end : {i to : ℕ} {after : List ℕ} → length after ≤ i → i ≤ to → Forgotten before from i after → Forgotten before from to after
+  forgotten-end {i} {to} {after} short onward f = record {
+    none = λ j low high. go j low (decLt j i);
+    outside = outside-more (omega arith) onward (f .outside);
+  }
+    where
+      go : (j : ℕ) → from ≤ j → Dec (j < i) → getD after j 0 ≡ 0
+      go j low (yes h) = f .none j low h
+      go j low (no h) = no-slot after (omega arith)
 
 -- a run of stars, byte by byte
 pub stars-none : (bytes : List ℕ) (at : ℕ) → StarsTo bytes at at

@@ -5,8 +5,10 @@ pub mod Crossing
 pub mod Calls
 pub mod Leaf
 pub mod Seen
+pub mod Bound
 pub mod Found
 pub mod Rounds
+pub mod Chosen
 pub mod Loops
 pub mod Asking
 pub mod Answering

@@ -1,20 +1,22 @@
 -- What stars have seen and what tests have told, while the table changes: both stay where their own slots do, and cleared slots are right for every ground.
 -- Opens the text of a rule; knows no code.
 use mathlib.Core.Path.{_≡_, refl, sym, ap, subst, _∙_}
-use mathlib.Core.Logic.{_↔_}
+use mathlib.Core.Logic.{_⊎_, inl, inr}
 use mathlib.Core.Bool.{Bool, true, false, not}
 use mathlib.Core.List.{List}
 use Prim.Native.Nat.{ℕ, _+_, _≤_, _<_}
 use native.Mathlib.Omega.{arith}
 use native.Mathlib.Decide.{ℕ-discrete}
-use lib.ListN.{length, getD, length-append}
+use lib.ListN.{length, drop, getD, length-append}
 use Rattle.laws.specs.Bit.{on}
 use Rattle.laws.proofs.Truth.{off-on}
 use Rattle.meaning.specs.Theory.{World}
-use Rattle.meaning.specs.Rule.{Walk, Test, act, undo, next, prev, seq, alt, star, check, conv, neg, both, diamond, ofWalk, ofTest, walkText, testText}
+use Rattle.meaning.specs.Rule.{Variable, Walk, Test, act, undo, next, prev, seq, alt, star, check, conv, pick, neg, both, diamond, exists, ofWalk, ofTest, walkText, testText}
+use Rattle.meaning.specs.Rule.{testKind, Opens}
+use Rattle.meaning.proofs.Reading.{unique-reading}
 use Rattle.meaning.specs.Leads.{Holds}
 use Rattle.rule.specs.Standing.{Stands}
-use Rattle.rule.proofs.Spread.{Spread, spread, seq-at, alt-at, star-at, conv-at, always-at, fluent-at, neg-at, both-at, diamond-at}
+use Rattle.rule.proofs.Spread.{Spread, spread, seq-at, alt-at, star-at, conv-at, always-at, fluent-at, neg-at, both-at, diamond-at, sum-fluent-at, exists-at}
 use Rattle.ask.specs.Image.{Set}
 use Rattle.ask.specs.Slots.{slot, Stored}
 use Rattle.ask.specs.Run.{Ground, led, Lies, Chained, Seen, Told}
@@ -41,6 +43,14 @@ check-long t = omega arith
 pub conv-long : (x : Walk) → length (walkText (conv x)) ≡ 1 + length (walkText x)
 unfolding walkText
 conv-long x = omega arith
+
+pub pick-long : (v : Variable) (x : Walk) → length (walkText (pick v x)) ≡ 2 + length (walkText x)
+unfolding walkText
+pick-long v x = omega arith
+
+pub exists-long : (v : Variable) (t : Test) → length (testText (exists v t)) ≡ 2 + length (testText t)
+unfolding walkText
+exists-long v t = omega arith
 
 pub neg-long : (t : Test) → length (testText (neg t)) ≡ 1 + length (testText t)
 unfolding walkText
@@ -93,6 +103,15 @@ module _ {bytes : List ℕ} {at : ℕ} where
       go e (neg-at t p) = (λ k. omega (arith, e, k), λ k. omega (arith, e, k))
       go e (both-at t u p q) = (λ k. omega (arith, e, k), λ k. omega (arith, e, k))
       go e (diamond-at x t p q) = (λ k. omega (arith, e, k), λ k. omega (arith, e, k))
+      go e (sum-fluent-at i v d l) = (λ k. omega (arith, e, k), λ k. omega (arith, e, k))
+      go e (exists-at v t l p) = (λ k. omega (arith, e, k), λ k. omega (arith, e, k))
+
+  -- one test alone stands at a place
+  pub one-test-there : (t u : Test) → Stands bytes at (ofTest t) → Stands bytes at (ofTest u) → t ≡ u
+  one-test-there t u h k = let e : ofTest t ≡ ofTest u = unique-reading (opens h) (opens k) .0 in cc
+    where
+      opens : {y : Test} → (h : Stands bytes at (ofTest y)) → Opens testKind (drop at bytes) (ofTest y) (h .rest)
+      opens h = record { fits = tt; spells = h .spells; shortActions = h .shortActions; shortFluents = h .shortFluents }
 
 -- the table is the same between two places
 abbrev pub Alike : ℕ → ℕ → List ℕ → List ℕ → Type 0
@@ -127,6 +146,7 @@ seen-same w n l m (star x) back g at e h = (
   seen-same w n l m x back (led g (star x) back) (at + 1) (λ j low high. e j (omega arith) (omega (arith, star-long x))) (h .1),
 )
 seen-same w n l m (check t) back g at e h = tt
+seen-same w n l m (pick v x) back g at e h = tt
 seen-same w n l m (conv x) back g at e h = seen-same w n l m x (not back) g (at + 1) (λ j low high. e j (omega arith) (omega (arith, conv-long x))) h
 
 -- stars with empty slots have seen nothing
@@ -163,51 +183,66 @@ seen-none w n bytes l (star x) back g at s e = (
   seen-none w n bytes l x back (led g (star x) back) (at + 1) (star-parts s .1) (λ j low high. e j (omega arith) (omega (arith, star-long x))),
 )
 seen-none w n bytes l (check t) back g at s e = tt
+seen-none w n bytes l (pick v x) back g at s e = tt
 seen-none w n bytes l (conv x) back g at s e = seen-none w n bytes l x (not back) g (at + 1) (conv-parts s) (λ j low high. e j (omega arith) (omega (arith, conv-long x)))
 
--- what tests have told stands in slots that are no star's
-pub told-same : {w : World} {bytes l : List ℕ} (m : List ℕ) → ((j : ℕ) → (getD bytes j 0 ≡ 42 → ⊥) → getD m j 0 ≡ getD l j 0) → Told w bytes l → Told w bytes m
-told-same {w} {bytes} {l} m e h = record {
-  each = λ i sign x stands p k.
-      let own : slot m i p ≡ slot l i p = ap (λ (word : ℕ). on word p) (e i (λ star. omega (arith, sign, star))) in
-      let behind : slot m (i + 1) p ≡ slot l (i + 1) p = ap (λ (word : ℕ). on word p) (e (i + 1) (test-sign stands .0)) in
-      let u = h .each i sign x stands p (sym behind ∙ k) in
-      (λ a. u .0 (sym own ∙ a), λ a. own ∙ u .1 a);
+-- what tests have told stays where each slot of theirs does, or has nothing any more
+pub told-fewer : {w : World} {bytes : List ℕ} {scope : Set} {l : List ℕ} (m : List ℕ)
+    → ((j : ℕ) → (getD bytes j 0 ≡ 42 → ⊥) → (getD m j 0 ≡ getD l j 0) ⊎ (getD m j 0 ≡ 0)) → Told w bytes scope l → Told w bytes scope m
+told-fewer {w} {bytes} {scope} {l} m e h = record {
+  each = λ i within sign x stands p.
+      let u = h .each i within sign x stands p in (
+        λ k. u .0 (stays i p (e i (λ star. omega (arith, sign, star))) k),
+        λ k. u .1 (stays (i + 1) p (e (i + 1) (test-sign stands .0)) k),
+      );
+}
+  where
+    stays : (j p : ℕ) → (getD m j 0 ≡ getD l j 0) ⊎ (getD m j 0 ≡ 0) → slot m j p ≡ true → slot l j p ≡ true
+    stays j p (inl same) k = sym (ap (λ (word : ℕ). on word p) same) ∙ k
+    stays j p (inr none) k = absurd (off-on (empty-slot m j none p) k)
+
+-- they stand in slots that are no star's
+pub told-same : {w : World} {bytes : List ℕ} {scope : Set} {l : List ℕ} (m : List ℕ) → ((j : ℕ) → (getD bytes j 0 ≡ 42 → ⊥) → getD m j 0 ≡ getD l j 0)
+    → Told w bytes scope l → Told w bytes scope m
+told-same m e h = told-fewer m (λ j not-star. inl (e j not-star)) h
+
+-- in a scope whose slots are empty, nothing is told
+pub told-none : {w : World} {bytes l : List ℕ} {scope : Set} → ((j : ℕ) → scope j ≡ true → (getD l j 0 ≡ 0) × (getD l (j + 1) 0 ≡ 0)) → Told w bytes scope l
+told-none {l = l} e = record {
+  each = λ i within sign x stands p. (
+    λ k. absurd (off-on (empty-slot l i (e i within .0) p) k),
+    λ k. absurd (off-on (empty-slot l (i + 1) (e i within .1) p) k),
+  );
 }
 
-pub told-none : {w : World} {bytes l : List ℕ} → ((j : ℕ) → getD l j 0 ≡ 0) → Told w bytes l
-told-none {l = l} e = record { each = λ i sign x stands p k. absurd (off-on (empty-slot l (i + 1) (e (i + 1)) p) k) }
+-- what the slots of a `?` tell of its test at a position
+abbrev Right : World → List ℕ → ℕ → Test → ℕ → Type 0
+Right w k i x p = (slot k i p ≡ true → Holds w x p p) × (slot k (i + 1) p ≡ true → ¬ Holds w x p p)
 
--- a `?` keeps where its test is true, and behind it where that was asked
-pub told-more : {w : World} {bytes l m k : List ℕ} {at : ℕ} {t : Test} {held all : Set} → getD bytes at 0 ≡ 63 → Stands bytes (at + 1) (ofTest t)
-    → ((x : Test) → Stands bytes (at + 1) (ofTest x) → (p : ℕ) → all p ≡ true → (held p ≡ true) ↔ Holds w x p p)
-    → Stored l at held m → Stored m (at + 1) all k → Told w bytes l → Told w bytes k
-told-more {w} {bytes} {l} {m} {k} {at} {t} {held} {all} sign stands right one two h = record { each = λ i s x there p a. go i s x there p a (ℕ-discrete i at) }
+-- a `?` keeps where its test is true, and behind it where that is not
+pub told-more : {w : World} {bytes : List ℕ} {scope : Set} {l m k : List ℕ} {at : ℕ} {t : Test} {held denied : Set} → getD bytes at 0 ≡ 63 → Stands bytes (at + 1) (ofTest t)
+    → ((p : ℕ) → held p ≡ true → Holds w t p p) → ((p : ℕ) → denied p ≡ true → ¬ Holds w t p p) → Stored l at held m → Stored m (at + 1) denied k
+    → Told w bytes scope l → Told w bytes scope k
+told-more {w} {bytes} {scope} {l} {m} {k} {at} {t} {held} {denied} sign stands yes-there not-there one two h = record {
+  each = λ i within s x there p. go i within s x there p (ℕ-discrete i at);
+}
   where
-    own : (x : Test) → Stands bytes (at + 1) (ofTest x) → (p : ℕ) → slot k (at + 1) p ≡ true → (slot k at p ≡ true) ↔ Holds w x p p
-    own x there p a =
-        let (lent, in-all) = two .own p .0 a in
+    own : (p : ℕ) → Right w k at t p
+    own p =
         let same : slot k at p ≡ slot m at p = ap (λ (word : ℕ). on word p) (two .other at (λ e. omega (arith, e))) in
-        let u = right x there p in-all in (
-          λ b. u .0 (one .own p .0 (sym same ∙ b) .1),
-          λ b. same ∙ one .own p .1 (omega (arith, lent, one .long), u .1 b),
-        )
+        (λ a. yes-there p (one .own p .0 (sym same ∙ a) .1), λ a. not-there p (two .own p .0 a .1))
 
-    go : (i : ℕ) → getD bytes i 0 ≡ 63 → (x : Test) → Stands bytes (i + 1) (ofTest x) → (p : ℕ) → slot k (i + 1) p ≡ true → Dec (i ≡ at)
-        → (slot k i p ≡ true) ↔ Holds w x p p
-    go i s x there p a (yes e) =
+    go : (i : ℕ) → scope i ≡ true → getD bytes i 0 ≡ 63 → (x : Test) → Stands bytes (i + 1) (ofTest x) → (p : ℕ) → Dec (i ≡ at) → Right w k i x p
+    go i within s x there p (yes e) =
         let there′ = subst (λ (j : ℕ). Stands bytes (j + 1) (ofTest x)) e there in
-        let a′ = subst (λ (j : ℕ). slot k (j + 1) p ≡ true) e a in
-        subst (λ (j : ℕ). (slot k j p ≡ true) ↔ Holds w x p p) (sym e) (own x there′ p a′)
-    go i s x there p a (no apart) =
+        subst (λ (j : ℕ). Right w k j x p) (sym e) (subst (λ (y : Test). Right w k at y p) (one-test-there t x stands there′) (own p))
+    go i within s x there p (no apart) =
         let not-behind : i ≡ at + 1 → ⊥ = λ e. test-sign stands .1 (subst (λ (j : ℕ). getD bytes j 0 ≡ 63) e s) in
         let not-before : i + 1 ≡ at → ⊥ = λ e. test-sign there .1 (subst (λ (j : ℕ). getD bytes j 0 ≡ 63) (sym e) sign) in
         let same : (j : ℕ) → (j ≡ at → ⊥) → (j ≡ at + 1 → ⊥) → slot k j p ≡ slot l j p
         = λ j f g. ap (λ (word : ℕ). on word p) (two .other j g ∙ one .other j f) in
-        let here = same i apart not-behind in
-        let behind = same (i + 1) not-before (λ e. apart (omega (arith, e))) in
-        let u = h .each i s x there p (sym behind ∙ a) in
-        (λ b. u .0 (sym here ∙ b), λ b. here ∙ u .1 b)
+        let u = h .each i within s x there p in
+        (λ b. u .0 (sym (same i apart not-behind) ∙ b), λ b. u .1 (sym (same (i + 1) not-before (λ e. apart (omega (arith, e)))) ∙ b))
 
 -- Ground: what it holds under a star, and where it lies.
 pub lies-low : (w : World) (n : ℕ) (g : Ground) (x : Walk) (back : Bool) (q : ℕ) → Lies w n (led g x back) q → q ≤ n

@@ -12,15 +12,16 @@ use Rattle.meaning.specs.Leads.{Leads}
 use Rattle.meaning.specs.Asks.{AsksAt}
 use Rattle.rule.specs.Standing.{Stands}
 use Rattle.ask.specs.Image.{Set, UpTo}
+use Rattle.ask.specs.Values.{unbound}
 use Rattle.ask.specs.Found.{Tabled}
 
--- over the log that the rows describe, with now at its end, the job leads from 0 to the end
-pub record EndTold (job rows : List ℕ) (end : ℕ) (answer : Bool) : Type 0 where
-  pub each : (w : World) → Tabled w rows end → (x : Walk) → Stands job 0 (ofWalk x) → (answer ≡ true) ↔ Leads w x 0 end end
+-- over the log that the rows describe, with now at its end, so many values and no variable bound, the job leads from 0 to the end
+pub record EndTold (job : List ℕ) (domain : ℕ) (rows : List ℕ) (end : ℕ) (answer : Bool) : Type 0 where
+  pub each : (w : World) → Tabled w rows (unbound domain) end → (x : Walk) → Stands job 0 (ofWalk x) → (answer ≡ true) ↔ Leads w x 0 end end
 
 -- the actions that the job asks for there by the signs that may, bit a for action a
-pub record AskTold (may : ℕ → Bool) (job rows : List ℕ) (end asked : ℕ) : Type 0 where
-  pub each : (w : World) → Tabled w rows end → (x : Walk) → Stands job 0 (ofWalk x) → (a : ℕ) → a < actionLimit
+pub record AskTold (may : ℕ → Bool) (job : List ℕ) (domain : ℕ) (rows : List ℕ) (end asked : ℕ) : Type 0 where
+  pub each : (w : World) → Tabled w rows (unbound domain) end → (x : Walk) → Stands job 0 (ofWalk x) → (a : ℕ) → a < actionLimit
       → (on asked a ≡ true) ↔ AsksAt may w 0 x 0 end a
 
 -- the actions that a walk, whose text begins at a place, asks for at now = n, from some position of a set
@@ -28,5 +29,5 @@ abbrev pub AskedBy : (ℕ → Bool) → World → ℕ → Walk → ℕ → Set �
 AskedBy may w at x n from asked = (a : ℕ) → a < actionLimit → (on asked a ≡ true) ↔ ((p : ℕ) × (from p ≡ true) × AsksAt may w at x p n a)
 
 -- the same of the walk at a place of the text
-pub record AskFound (may : ℕ → Bool) (text : List ℕ) (at : ℕ) (rows : List ℕ) (now : ℕ) (from : Set) (asked : ℕ) : Type 0 where
-  pub found : (w : World) → Tabled w rows now → UpTo now from → (x : Walk) → Stands text at (ofWalk x) → AskedBy may w at x now from asked
+pub record AskFound (may : ℕ → Bool) (text : List ℕ) (at : ℕ) (rows bound : List ℕ) (now : ℕ) (from : Set) (asked : ℕ) : Type 0 where
+  pub found : (w : World) → Tabled w rows bound now → UpTo now from → (x : Walk) → Stands text at (ofWalk x) → AskedBy may w at x now from asked

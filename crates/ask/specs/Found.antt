@@ -12,6 +12,7 @@ use Rattle.theory.specs.Subject.{Subject, worldOf}
 use Rattle.theory.specs.Tables.{Describes}
 use Rattle.spelling.specs.declared.Digits.the-variants.{Number}
 use Rattle.spelling.specs.Scan.{NumberAt}
+use Rattle.ask.specs.Values.{Bears}
 use Rattle.ask.specs.Image.{Set, UpTo, Image, Sifted, Way}
 use Rattle.rule.specs.Standing.{Stands, Ends, Leaf}
 
@@ -36,11 +37,12 @@ pub record Numbered (bytes : List ℕ) (at : ℕ) : Type 0 where
   pub number : ℕ
   pub digits : NumberAt bytes at (Number number)
 
--- the rows are this world's, its log is no longer than a log may be, and now is not past it
-pub record Tabled (w : World) (rows : List ℕ) (now : ℕ) : Type 0 where
+-- the rows are this world's, its log is no longer than a log may be, now is not past it, and so the variables stand
+pub record Tabled (w : World) (rows bound : List ℕ) (now : ℕ) : Type 0 where
   pub described : Describes w rows
   pub logged : now ≤ length (w .log)
   pub room : length (w .log) ≤ logLimit
+  pub bears : Bears w bound
 
 -- a table of ends with nothing in it
 abbrev pub noEnds : List ℕ
@@ -52,15 +54,15 @@ pub record LaidOut (s : Subject) (bytes ends rows : List ℕ) : Type 0 where
   pub described : Describes (worldOf s) rows
 
 -- the positions that the walk there, or its converse, leads to from some position of the set; the same of a walk with no part
-pub record WalkFound (bytes : List ℕ) (at : ℕ) (back : Bool) (rows : List ℕ) (now : ℕ) (from answer : Set) : Type 0 where
+pub record WalkFound (bytes : List ℕ) (at : ℕ) (back : Bool) (rows bound : List ℕ) (now : ℕ) (from answer : Set) : Type 0 where
   pub found :
-      (w : World) → Tabled w rows now → UpTo now from → (x : Walk) → Stands bytes at (ofWalk x) → Image (Way w x back) now from answer
+      (w : World) → Tabled w rows bound now → UpTo now from → (x : Walk) → Stands bytes at (ofWalk x) → Image (Way w x back) now from answer
 
-pub record LeafFound (bytes : List ℕ) (at : ℕ) (back : Bool) (rows : List ℕ) (now : ℕ) (from answer : Set) : Type 0 where
+pub record LeafFound (bytes : List ℕ) (at : ℕ) (back : Bool) (rows bound : List ℕ) (now : ℕ) (from answer : Set) : Type 0 where
   pub found :
-      (w : World) → Tabled w rows now → UpTo now from → (x : Walk) → Leaf x → Stands bytes at (ofWalk x) → Image (Way w x back) now from answer
+      (w : World) → Tabled w rows bound now → UpTo now from → (x : Walk) → Leaf x → Stands bytes at (ofWalk x) → Image (Way w x back) now from answer
 
 -- the positions of the set where the test there is true
-pub record TestFound (bytes : List ℕ) (at : ℕ) (rows : List ℕ) (now : ℕ) (among answer : Set) : Type 0 where
+pub record TestFound (bytes : List ℕ) (at : ℕ) (rows bound : List ℕ) (now : ℕ) (among answer : Set) : Type 0 where
   pub found :
-      (w : World) → Tabled w rows now → UpTo now among → (x : Test) → Stands bytes at (ofTest x) → Sifted (Holds w x) now among answer
+      (w : World) → Tabled w rows bound now → UpTo now among → (x : Test) → Stands bytes at (ofTest x) → Sifted (Holds w x) now among answer

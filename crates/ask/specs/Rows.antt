@@ -1,5 +1,5 @@
 -- Document 01, "Numbers of refusal", for the two calls that ask a rule about a log: theory and log (3, 4, 5), the rule (6, 7, 8; it is no
--- job, so that 9 never holds), then and now (10).
+-- job, so that 9 never holds; 13, "between 9 and 10"), then and now (10).
 use mathlib.Core.Bool.{true}
 use mathlib.Core.List.{List, [], _∷_, _++_}
 use Prim.Native.Nat.{ℕ}

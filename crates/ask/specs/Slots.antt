@@ -28,6 +28,11 @@ pub record Cleared (bytes before : List ℕ) (from to : ℕ) (after : List ℕ) 
   pub signs : (j : ℕ) → (getD bytes j 0 ≡ 42 → ⊥) → getD after j 0 ≡ getD before j 0
   pub outside : Outside from to before after
 
+-- the slots between two places have nothing; no other is changed
+pub record Forgotten (before : List ℕ) (from to : ℕ) (after : List ℕ) : Type 0 where
+  pub none : (j : ℕ) → from ≤ j → j < to → getD after j 0 ≡ 0
+  pub outside : Outside from to before after
+
 -- from the first place on, up to the last, every further byte is a `*`
 pub record StarsTo (bytes : List ℕ) (first last : ℕ) : Type 0 where
   pub onward : first ≤ last

@@ -9,12 +9,18 @@ use rule::ends::ENDS_ROOM;
 use theory::tables::ROWS;
 
 // The job leads from 0 to the log's end.
-pub fn ended(job: &[u8], ends: &[u8; ENDS_ROOM], rows: &[u64; ROWS], end: usize) -> bool
+pub fn ended(
+    job: &[u8],
+    ends: &[u8; ENDS_ROOM],
+    domain: usize,
+    rows: &[u64; ROWS],
+    end: usize,
+) -> bool
     requires { ⌜ WalkHere (now job) (now ends) 0 ⌝ }
-    ensures { λ r. ⌜ EndTold (now (job .entry)) (now (rows .entry)) end r ⌝ }
+    ensures { λ r. ⌜ EndTold (now (job .entry)) domain (now (rows .entry)) end r ⌝ }
 {
     let front = PositionSet::at(0);
-    let reached = run::walk(job, ends, front, end, rows);
+    let reached = run::walk(job, ends, domain, front, end, rows);
     reached.has(end)
 }
 
@@ -22,14 +28,15 @@ pub fn ended(job: &[u8], ends: &[u8; ENDS_ROOM], rows: &[u64; ROWS], end: usize)
 pub fn asked(
     job: &[u8],
     ends: &[u8; ENDS_ROOM],
+    domain: usize,
     rows: &[u64; ROWS],
     end: usize,
     follow: &[u8; ENDS_ROOM],
     left: usize,
 ) -> u64
     requires { ⌜ WalkHere (now job) (now ends) 0 ⌝ }
-    ensures { λ r. ⌜ AskTold (allows (now (follow .entry)) left) (now (job .entry)) (now (rows .entry)) end r ⌝ }
+    ensures { λ r. ⌜ AskTold (allows (now (follow .entry)) left) (now (job .entry)) domain (now (rows .entry)) end r ⌝ }
 {
     let front = PositionSet::at(0);
-    run::asks(job, ends, front, end, rows, follow, left)
+    run::asks(job, ends, domain, front, end, rows, follow, left)
 }

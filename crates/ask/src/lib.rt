@@ -15,6 +15,7 @@ mod layout; // layout.rt: what the evaluator reads of a question
 mod run; // run.rt: a rule from its first place on, with slots where it keeps something
 mod slots; // slots.rt: what a run keeps
 mod step; // step.rt: the signs with no part
+mod values; // values.rt: what the variables stand for
 
 use checks::check;
 use layout::lay_out;
@@ -61,8 +62,10 @@ pub fn reach(
             let mut ends = [0u8; ENDS_ROOM];
             let mut rows = [0u64; ROWS];
             lay_out(s, masks, log, walk, &mut ends, &mut rows);
+            let counts = s.counts;
+            let domain = counts.domain;
             let from = PositionSet::at(then);
-            let found = run::walk(walk, &ends, from, now, &rows);
+            let found = run::walk(walk, &ends, domain, from, now, &rows);
             let set = found.word();
             let count = found.count();
             let earliest = found.earliest();
@@ -83,8 +86,10 @@ pub fn judged(s: Setting, masks: &[u32], log: &[u8], test: &[u8], then: usize, n
     let mut ends = [0u8; ENDS_ROOM];
     let mut rows = [0u64; ROWS];
     lay_out(s, masks, log, test, &mut ends, &mut rows);
+    let counts = s.counts;
+    let domain = counts.domain;
     let among = PositionSet::at(then);
-    let kept = run::test(test, &ends, among, now, &rows);
+    let kept = run::test(test, &ends, domain, among, now, &rows);
     kept.has(then)
 }
 

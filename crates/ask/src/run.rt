@@ -3,19 +3,16 @@
 ghost use mathlib.Core.Bool.{false};
 ghost use Rattle.meaning.specs.Lengths.{allows};
 ghost use Rattle.positions.specs.Positions.{holds};
+ghost use Rattle.ask.specs.Values.{unbound};
 ghost use Rattle.ask.specs.Found.{WalkHere, TestHere, WalkFound, TestFound};
 ghost use Rattle.ask.specs.Asked.{AskFound};
 use crate::asks;
 use crate::evaluator;
-use crate::step::wide;
+use crate::values::end_of;
+use crate::values::none_bound;
 use positions::PositionSet;
 use rule::ends::ENDS_ROOM;
 use theory::tables::ROWS;
-
-// Where the rule at a place ends.
-fn end_of(ends: &[u8; ENDS_ROOM], at: usize) -> usize {
-    if at < ENDS_ROOM { wide(ends[at]) } else { 0 }
-}
 
 // Whether slots are worth lending: a star is inside a star, and not right behind it, or a `?` is inside a star or inside the test of a `?`. Otherwise no sign is met twice with the same ground.
 // An answer is right with slots and without.
@@ -51,70 +48,79 @@ fn keeps(text: &[u8], ends: &[u8; ENDS_ROOM]) -> bool {
 pub(crate) fn walk(
     text: &[u8],
     ends: &[u8; ENDS_ROOM],
+    domain: usize,
     from: PositionSet,
     now: usize,
     rows: &[u64; ROWS],
 ) -> PositionSet
     requires { ⌜ WalkHere (text .now) (ends .now) 0 ⌝ }
-    ensures { λ r. ⌜ WalkFound (text .entry .now) 0 false (rows .entry .now) now (holds from) (holds r) ⌝ }
+    ensures { λ r. ⌜ WalkFound (text .entry .now) 0 false (rows .entry .now) (unbound domain) now (holds from) (holds r) ⌝ }
 {
     if keeps(text, ends) {
-        return walk_keeping(text, ends, from, now, rows);
+        return walk_keeping(text, ends, domain, from, now, rows);
     }
+    let vars = none_bound(domain);
     let mut none = [0u64; 0];
-    evaluator::walk(text, ends, 0, from, now, false, rows, &mut none)
+    evaluator::walk(text, ends, 0, from, now, false, rows, &vars, &mut none)
 }
 
 fn walk_keeping(
     text: &[u8],
     ends: &[u8; ENDS_ROOM],
+    domain: usize,
     from: PositionSet,
     now: usize,
     rows: &[u64; ROWS],
 ) -> PositionSet
     requires { ⌜ WalkHere (text .now) (ends .now) 0 ⌝ }
-    ensures { λ r. ⌜ WalkFound (text .entry .now) 0 false (rows .entry .now) now (holds from) (holds r) ⌝ }
+    ensures { λ r. ⌜ WalkFound (text .entry .now) 0 false (rows .entry .now) (unbound domain) now (holds from) (holds r) ⌝ }
 {
+    let vars = none_bound(domain);
     let mut slots = [0u64; ENDS_ROOM];
-    evaluator::walk(text, ends, 0, from, now, false, rows, &mut slots)
+    evaluator::walk(text, ends, 0, from, now, false, rows, &vars, &mut slots)
 }
 
 // The positions of a set where the test is true.
 pub(crate) fn test(
     text: &[u8],
     ends: &[u8; ENDS_ROOM],
+    domain: usize,
     among: PositionSet,
     now: usize,
     rows: &[u64; ROWS],
 ) -> PositionSet
     requires { ⌜ TestHere (text .now) (ends .now) 0 ⌝ }
-    ensures { λ r. ⌜ TestFound (text .entry .now) 0 (rows .entry .now) now (holds among) (holds r) ⌝ }
+    ensures { λ r. ⌜ TestFound (text .entry .now) 0 (rows .entry .now) (unbound domain) now (holds among) (holds r) ⌝ }
 {
     if keeps(text, ends) {
-        return test_keeping(text, ends, among, now, rows);
+        return test_keeping(text, ends, domain, among, now, rows);
     }
+    let vars = none_bound(domain);
     let mut none = [0u64; 0];
-    evaluator::test(text, ends, 0, among, now, rows, &mut none)
+    evaluator::test(text, ends, 0, among, now, rows, &vars, &mut none)
 }
 
 fn test_keeping(
     text: &[u8],
     ends: &[u8; ENDS_ROOM],
+    domain: usize,
     among: PositionSet,
     now: usize,
     rows: &[u64; ROWS],
 ) -> PositionSet
     requires { ⌜ TestHere (text .now) (ends .now) 0 ⌝ }
-    ensures { λ r. ⌜ TestFound (text .entry .now) 0 (rows .entry .now) now (holds among) (holds r) ⌝ }
+    ensures { λ r. ⌜ TestFound (text .entry .now) 0 (rows .entry .now) (unbound domain) now (holds among) (holds r) ⌝ }
 {
+    let vars = none_bound(domain);
     let mut slots = [0u64; ENDS_ROOM];
-    evaluator::test(text, ends, 0, among, now, rows, &mut slots)
+    evaluator::test(text, ends, 0, among, now, rows, &vars, &mut slots)
 }
 
 // The actions that the walk asks for at the end, from some position of a set, by the step signs that may have so many steps behind them.
 pub(crate) fn asks(
     text: &[u8],
     ends: &[u8; ENDS_ROOM],
+    domain: usize,
     from: PositionSet,
     end: usize,
     rows: &[u64; ROWS],
@@ -122,19 +128,32 @@ pub(crate) fn asks(
     left: usize,
 ) -> u64
     requires { ⌜ WalkHere (text .now) (ends .now) 0 ⌝ }
-    ensures { λ r. ⌜ AskFound (allows (follow .entry .now) left) (text .entry .now) 0 (rows .entry .now) end (holds from) r ⌝ }
+    ensures { λ r. ⌜ AskFound (allows (follow .entry .now) left) (text .entry .now) 0 (rows .entry .now) (unbound domain) end (holds from) r ⌝ }
 {
     if keeps(text, ends) {
-        return asks_keeping(text, ends, from, end, rows, follow, left);
+        return asks_keeping(text, ends, domain, from, end, rows, follow, left);
     }
+    let vars = none_bound(domain);
     let mut none = [0u64; 0];
-    let pass = asks::onward(text, ends, 0, from, end, rows, follow, left, &mut none);
+    let pass = asks::onward(
+        text,
+        ends,
+        0,
+        from,
+        end,
+        rows,
+        &vars,
+        follow,
+        left,
+        &mut none,
+    );
     pass.asked
 }
 
 fn asks_keeping(
     text: &[u8],
     ends: &[u8; ENDS_ROOM],
+    domain: usize,
     from: PositionSet,
     end: usize,
     rows: &[u64; ROWS],
@@ -142,9 +161,21 @@ fn asks_keeping(
     left: usize,
 ) -> u64
     requires { ⌜ WalkHere (text .now) (ends .now) 0 ⌝ }
-    ensures { λ r. ⌜ AskFound (allows (follow .entry .now) left) (text .entry .now) 0 (rows .entry .now) end (holds from) r ⌝ }
+    ensures { λ r. ⌜ AskFound (allows (follow .entry .now) left) (text .entry .now) 0 (rows .entry .now) (unbound domain) end (holds from) r ⌝ }
 {
+    let vars = none_bound(domain);
     let mut slots = [0u64; ENDS_ROOM];
-    let pass = asks::onward(text, ends, 0, from, end, rows, follow, left, &mut slots);
+    let pass = asks::onward(
+        text,
+        ends,
+        0,
+        from,
+        end,
+        rows,
+        &vars,
+        follow,
+        left,
+        &mut slots,
+    );
     pass.asked
 }

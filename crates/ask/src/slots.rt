@@ -1,10 +1,10 @@
 // What a run keeps: a set of positions for each place of the text. A star's slot has the ground that it has seen in this run, a `?`'s the positions where its
-// test is true, and the slot behind it those where it was asked. A slot that is not lent keeps nothing, and only makes the answer slower.
+// test is true, and the slot behind it those where it is not. A slot that is not lent keeps nothing, and only makes the answer slower.
 ghost use mathlib.Core.Path.{_≡_};
 ghost use Prim.Native.Nat.{ℕ, _≤_};
 ghost use lib.ListN.{length};
 ghost use Rattle.positions.specs.Positions.{holds};
-ghost use Rattle.ask.specs.Slots.{slot, Stored, Cleared};
+ghost use Rattle.ask.specs.Slots.{slot, Stored, Cleared, Forgotten};
 use positions::PositionSet;
 
 // What the slot of a place has.
@@ -42,5 +42,20 @@ pub(crate) fn clear(text: &[u8], slots: &mut [u64], from: usize, to: usize)
             slots[i] = 0;
         }
         i += 1;
+    }
+}
+
+// A new value of a variable: what the part between two places has kept is forgotten, what its tests have told too.
+pub(crate) fn forget(slots: &mut [u64], from: usize, to: usize)
+    requires { ⌜ from ≤ to ⌝ }
+    ensures { λ _. ⌜ Forgotten (now (slots .entry)) from to (now (slots .exit)) ⌝ }
+{
+    let mut j = from;
+    while j < to {
+        if slots.len() <= j {
+            return;
+        }
+        slots[j] = 0;
+        j += 1;
     }
 }

@@ -6,8 +6,13 @@ ghost use Rattle.positions.specs.Positions.{holds};
 ghost use Rattle.theory.specs.Tables.{rowCount, amongHolds};
 ghost use Rattle.spelling.specs.declared.Digits.the-variants.{Number};
 ghost use Rattle.spelling.specs.Scan.{NumberAt};
+ghost use Rattle.meaning.specs.Rule.{Variable};
+ghost use Rattle.rule.specs.Letters.{Lettered};
+ghost use Rattle.ask.specs.Values.{valueIn, SumHere};
 ghost use Rattle.ask.specs.Image.{UpTo, Image, Turn, Crossing};
 ghost use Rattle.ask.specs.Found.{Numbered, LeafHere, LeafFound};
+use crate::values::VARS;
+use crate::values::value_of;
 use positions::PositionSet;
 use theory::ACTION_LIMIT;
 use theory::tables::ACTION_ROWS;
@@ -31,7 +36,23 @@ pub(crate) fn named(text: &[u8], at: usize) -> usize
     (tens - 48) * 10 + (ones - 48)
 }
 
-// The row that the number at a place names, among so many from a first one on; none, where there is no such row.
+// The row of a number and a value together, among so many from a first one on; none, where there is no such row.
+fn row_of(n: usize, value: usize, rows: &[u64; ROWS], first: usize, many: usize) -> PositionSet
+    requires { ⌜ first + many ≤ rowCount ⌝ }
+    ensures { λ r. ⌜ ((q : ℕ) → holds r q ≡ amongHolds (now (rows .entry)) first many (n + value) q) ⌝ }
+{
+    if many <= n {
+        return PositionSet::EMPTY;
+    }
+    let left = many - n;
+    if left <= value {
+        return PositionSet::EMPTY;
+    }
+    let r = first + n + value;
+    PositionSet::of_word(rows[r])
+}
+
+// The row that the number at a place names.
 pub(crate) fn row(
     text: &[u8],
     at: usize,
@@ -43,12 +64,25 @@ pub(crate) fn row(
     ensures { λ r. ⌜ ((n q : ℕ) → NumberAt (now (text .entry)) at (Number n) → holds r q ≡ amongHolds (now (rows .entry)) first many n q) ⌝ }
 {
     let n = named(text, at);
-    if n < many {
-        let r = first + n;
-        PositionSet::of_word(rows[r])
-    } else {
-        PositionSet::EMPTY
-    }
+    row_of(n, 0, rows, first, many)
+}
+
+// The row that the number at a place and the variable behind it name.
+pub(crate) fn sum_row(
+    text: &[u8],
+    at: usize,
+    rows: &[u64; ROWS],
+    vars: &[usize; VARS],
+    first: usize,
+    many: usize,
+) -> PositionSet
+    requires { ⌜ SumHere (now text) at × (first + many ≤ rowCount) ⌝ }
+    ensures { λ r. ⌜ ((n q : ℕ) (v : Variable) → NumberAt (now (text .entry)) at (Number n) → Lettered (now (text .entry)) (at + 2) v → holds r q ≡ amongHolds (now (rows .entry)) first many (n + valueIn (now (vars .entry)) v) q) ⌝ }
+{
+    let n = named(text, at);
+    let letter = at + 2;
+    let value = value_of(text, letter, vars);
+    row_of(n, value, rows, first, many)
 }
 
 // One step from each position of a set, over steps that may be crossed; backwards, to each position whose step leads into the set.
@@ -66,7 +100,7 @@ fn cross(from: PositionSet, over: PositionSet, now: usize, back: bool) -> Positi
     }
 }
 
-// The walk at a place, where it is `aNN`, `rNN`, `n` or `u`.
+// The walk at a place, where it is `aNN`, `rNN`, `n`, `u`, `bNNv` or `sNNv`.
 pub(crate) fn leaf(
     text: &[u8],
     at: usize,
@@ -74,9 +108,10 @@ pub(crate) fn leaf(
     now: usize,
     back: bool,
     rows: &[u64; ROWS],
+    vars: &[usize; VARS],
 ) -> PositionSet
     requires { ⌜ LeafHere (text .now) at ⌝ }
-    ensures { λ r. ⌜ LeafFound (text .entry .now) at back (rows .entry .now) now (holds from) (holds r) ⌝ }
+    ensures { λ r. ⌜ LeafFound (text .entry .now) at back (rows .entry .now) (vars .entry .now) now (holds from) (holds r) ⌝ }
 {
     let sign = text[at];
     let name = at + 1;
@@ -94,6 +129,14 @@ pub(crate) fn leaf(
         b'n' => {
             let ahead = PositionSet::of_word(possible);
             cross(from, ahead, now, back)
+        }
+        b'b' => {
+            let over = sum_row(text, name, rows, vars, ACTION_ROWS, ACTION_LIMIT);
+            cross(from, over, now, back)
+        }
+        b's' => {
+            let over = sum_row(text, name, rows, vars, ACTION_ROWS, ACTION_LIMIT);
+            cross(from, over, now, !back)
         }
         _ => {
             let behind = PositionSet::of_word(possible);

@@ -37,14 +37,15 @@ pub(crate) fn bad_label(cartons: usize, label: usize) -> bool
     cartons < label
 }
 
-// Counts and start: a fluent for each label, none of them on.
+// Counts and start: a fluent for each label, none of them on, and no rule that could have a variable.
 pub(crate) fn setting(cartons: usize) -> Setting
     requires { ⌜ cartons ≤ cartonLimit ⌝ }
-    ensures { λ r. ⌜ r ≡ settingOf cartons (cartons + 1) 0 ⌝ }
+    ensures { λ r. ⌜ r ≡ settingOf cartons (cartons + 1) 0 0 ⌝ }
 {
     let counts = Counts {
         fluents: cartons,
         actions: cartons + 1,
+        domain: 0,
     };
     Setting { counts, start: 0 }
 }

@@ -60,7 +60,7 @@ module _ (s : Subject) (job : List ℕ) where
   Job-rows = textRows true jobKind job (countsOf s)
 
   module _ (world : Accepted (worldRows s)) where
-    -- 6 to 9
+    -- 6 to 9, and 13
     pub job-refused : {N : ℕ} → RefusedBy (ruleRows true jobKind job (countsOf s)) N → RefusedBy (nextRows s job) N
     job-refused r = refused-second (worldRows s) Job-rows world (rest-refused (λ h. not-first world (inl h)) r)
 

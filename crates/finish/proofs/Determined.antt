@@ -66,8 +66,8 @@ pub seek-determined :
 seek-determined s job more before after after′ a b passed x y =
     finish-determined s job more before after after′ a b (sought-answered s job more before after a passed x) (sought-answered s job more before after′ b passed y)
 
--- "12 comes before 11", and else the numbers rise
-pub finish-falls : (s : Subject) (job : List ℕ) (more room : ℕ) → falls (finishRows s job more room) ≡ (12, 11) ∷ []
+-- 13 is "between 9 and 10" and "12 comes before 11"; else the numbers rise
+pub finish-falls : (s : Subject) (job : List ℕ) (more room : ℕ) → falls (finishRows s job more room) ≡ (13, 12) ∷ (12, 11) ∷ []
 finish-falls s job more room = refl
 
 -- which actions may come next: an answer is its number and its actions

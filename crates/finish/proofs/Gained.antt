@@ -12,11 +12,11 @@ use lib.ListN.{length, getD, set, length-append, getD-replicate, List·getD-eq-d
 use lib.Seq.{getD-set-same, getD-set-other}
 use Rattle.laws.specs.Bit.{on}
 use Rattle.meaning.specs.Limits.{textLimit}
-use Rattle.meaning.specs.Rule.{Walk, act, undo, next, prev, seq, alt, star, check, conv, walkText, ofWalk}
+use Rattle.meaning.specs.Rule.{Walk, act, undo, next, prev, seq, alt, star, check, conv, pick, plain, plus, walkText, ofWalk}
 use Rattle.meaning.specs.Lengths.{Inside, Longer, Measured, Grown}
 use Rattle.meaning.proofs.Measured.{or-left, or-right, measured-none, measured-wide}
 use Rattle.rule.specs.Standing.{Ends}
-use Rattle.rule.proofs.Spread.{Spread, spread, act-at, undo-at, next-at, prev-at, seq-at, alt-at, star-at, check-at, conv-at, within}
+use Rattle.rule.proofs.Spread.{Spread, spread, act-at, undo-at, next-at, prev-at, seq-at, alt-at, star-at, check-at, conv-at, sum-act-at, sum-undo-at, pick-at, within}
 use Rattle.ask.proofs.Calls.{end-stands, NoSign}
 use Rattle.finish.specs.Lengths.{Closed, Gained, BeforeHere, BeforeTold, MayTold, noLengths}
 
@@ -46,6 +46,7 @@ closed-apart ons offs f f′ at (star x) g same h = (
 )
 closed-apart ons offs f f′ at (check t) g same h = tt
 closed-apart ons offs f f′ at (conv x) g same h = tt
+closed-apart ons offs f f′ at (pick v x) g same h = closed-apart ons offs f f′ (at + 2) x g (λ i low high. same i (omega arith) (omega arith)) h
 
 -- a table with nothing in it
 none-there : (i : ℕ) → getD noLengths i 0 ≡ 0
@@ -65,6 +66,7 @@ closed-none ons offs at (alt v x) = (closed-none ons offs _ v, closed-none ons o
 closed-none ons offs at (star x) = (rw (none-there at) (measured-none ons offs noLengths _ x), closed-none ons offs _ x)
 closed-none ons offs at (check t) = tt
 closed-none ons offs at (conv x) = tt
+closed-none ons offs at (pick v x) = closed-none ons offs _ x
 
 -- one place of the table that grows
 pub set-grown : (f : List ℕ) (at b : ℕ) → at < length f → Inside (getD f at 0) b → Grown f (set f at b)
@@ -94,7 +96,14 @@ module _ (ons offs : ℕ) {text : List ℕ} {at behind r : ℕ} {f f′ : List �
   act-gained sign room e longer = record { each = λ x h closed. go (spread h 97 sign) }
     where
       go : {x : Walk} → Spread text at 97 (ofWalk x) → Gained ons offs at x behind f f′ r
-      go (act-at a digits) = step-gained ons offs (act a) (omega arith) room e tt (there at behind f f′ room e, longer)
+      go (act-at a digits) = step-gained ons offs (act (plain a)) (omega arith) room e tt (there at behind f f′ room e, longer)
+
+  pub sum-gained : getD text at 0 ≡ 98 → at < length f → f′ ≡ set f at (bitOr (getD f at 0) behind) → Longer behind r → BeforeTold text at ons offs behind f f′ r
+  unfolding Closed Measured walkText
+  sum-gained sign room e longer = record { each = λ x h closed. go (spread h 98 sign) }
+    where
+      go : {x : Walk} → Spread text at 98 (ofWalk x) → Gained ons offs at x behind f f′ r
+      go (sum-act-at a v digits letter) = step-gained ons offs (act (plus a v)) (omega arith) room e tt (there at behind f f′ room e, longer)
 
   pub next-gained : getD text at 0 ≡ 110 → at < length f → f′ ≡ set f at (bitOr (getD f at 0) behind) → Longer behind r → BeforeTold text at ons offs behind f f′ r
   unfolding Closed Measured walkText
@@ -102,6 +111,22 @@ module _ (ons offs : ℕ) {text : List ℕ} {at behind r : ℕ} {f f′ : List �
     where
       go : {x : Walk} → Spread text at 110 (ofWalk x) → Gained ons offs at x behind f f′ r
       go next-at = step-gained ons offs next (omega arith) room e tt (there at behind f f′ room e, longer)
+
+-- `pvW`: what W takes, whatever the value
+module _ (ons offs : ℕ) {text : List ℕ} {at behind r : ℕ} {f f′ : List ℕ} where
+  pub pick-gained : getD text at 0 ≡ 112 → BeforeTold text (at + 2) ons offs behind f f′ r → BeforeTold text at ons offs behind f f′ r
+  unfolding Closed Measured walkText
+  pick-gained sign g = record { each = λ x s closed. go (spread s 112 sign) closed }
+    where
+      go : {x : Walk} → Spread text at 112 (ofWalk x) → Closed ons offs f at x → Gained ons offs at x behind f f′ r
+      go (pick-at v x letter p) closed =
+          let a : Gained ons offs (at + 2) x behind f f′ r = g .each x p closed in
+          record {
+            grown = a .grown;
+            apart = λ i out. a .apart i (⊎-elim (λ k. inl (omega arith)) (λ k. inr (omega arith)) out);
+            closed = a .closed;
+            measured = a .measured;
+          }
 
 -- Two parts: the table grows by one, then by the other.
 module _ (ons offs : ℕ) {text ends : List ℕ} (marked : Ends text ends) {at other : ℕ} (place : other ≡ getD ends (at + 1) 0) {behind one two : ℕ} {f f₁ f₂ : List ℕ} where
@@ -178,14 +203,14 @@ module _ (ons offs : ℕ) {text : List ℕ} {at behind : ℕ} {f : List ℕ} whe
       go (check-at t p) closed = stays ons offs (check t) 0 closed (inl (told .never bar t p))
 
   -- a job has no other sign
-  pub quiet-gained : NoSign text at 97 → NoSign text at 110 → NoSign text at 59 → NoSign text at 124 → NoSign text at 42 → NoSign text at 63
+  pub quiet-gained : NoSign text at 97 → NoSign text at 110 → NoSign text at 59 → NoSign text at 124 → NoSign text at 42 → NoSign text at 63 → NoSign text at 98 → NoSign text at 112
       → BeforeTold text at ons offs behind f f 0
   unfolding Measured
-  quiet-gained no-act no-next no-seq no-alt no-star no-check = record { each = λ x h closed. go (spread h (getD text at 0) refl) refl closed }
+  quiet-gained no-act no-next no-seq no-alt no-star no-check no-sum no-pick = record { each = λ x h closed. go (spread h (getD text at 0) refl) refl closed }
     where
       go : {b : ℕ} {x : Walk} → Spread text at b (ofWalk x) → getD text at 0 ≡ b → Closed ons offs f at x → Gained ons offs at x behind f f 0
       go (act-at b digits) e closed = absurd (no-act e)
-      go (undo-at b digits) e closed = stays ons offs (undo b) 0 closed tt
+      go (undo-at b digits) e closed = stays ons offs (undo (plain b)) 0 closed tt
       go next-at e closed = absurd (no-next e)
       go prev-at e closed = stays ons offs prev 0 closed tt
       go (seq-at v x p q) e closed = absurd (no-seq e)
@@ -193,3 +218,6 @@ module _ (ons offs : ℕ) {text : List ℕ} {at behind : ℕ} {f : List ℕ} whe
       go (star-at x p) e closed = absurd (no-star e)
       go (check-at t p) e closed = absurd (no-check e)
       go (conv-at x p) e closed = stays ons offs (conv x) 0 closed tt
+      go (sum-act-at b v digits letter) e closed = absurd (no-sum e)
+      go (sum-undo-at b v digits letter) e closed = stays ons offs (undo (plus b v)) 0 closed tt
+      go (pick-at v x letter p) e closed = absurd (no-pick e)

@@ -9,7 +9,7 @@ use lib.ListN.{getD}
 use Rattle.laws.specs.Bit.{on}
 use Rattle.laws.proofs.Truth.{off-on, true-or-false}
 use Rattle.meaning.specs.Limits.{fluentLimit}
-use Rattle.meaning.specs.Theory.{World, stateAt}
+use Rattle.meaning.specs.Theory.{World, bind, stateAt}
 use Rattle.meaning.specs.Rule.{Test, ofTest}
 use Rattle.meaning.specs.Leads.{Holds}
 use Rattle.meaning.specs.Lengths.{Turning}
@@ -17,7 +17,7 @@ use Rattle.spelling.specs.declared.Digits.the-variants.{Number}
 use Rattle.spelling.specs.Scan.{NumberAt}
 use Rattle.rule.proofs.Numbers.{number-tens, number-ones}
 use Rattle.rule.specs.Standing.{Ends}
-use Rattle.rule.proofs.Spread.{Spread, spread, always-at, fluent-at, neg-at, both-at}
+use Rattle.rule.proofs.Spread.{Spread, spread, always-at, fluent-at, neg-at, both-at, exists-at}
 use Rattle.ask.proofs.Calls.{end-stands}
 use Rattle.finish.specs.Lengths.{Lacks, Is, MayTold}
 
@@ -66,7 +66,15 @@ module _ (ons offs : ℕ) {text : List ℕ} {at : ℕ} where
       go true bar m (neg-at t s) = λ w p n turn is. m .never bar t s w p n turn is
       go false bar m (neg-at t s) = λ w p n turn is. is (λ h. m .never bar t s w p n turn h)
 
-  -- `<WT`
+  -- `evT`
+  pub exists-may : {answer : Bool} → getD text at 0 ≡ 101 → MayTold text (at + 2) true ons offs answer → MayTold text at true ons offs answer
+  unfolding Holds
+  exists-may {answer} sign told = record { never = λ bar t h. go bar (spread h 101 sign) }
+    where
+      go : answer ≡ false → {t : Test} → Spread text at 101 (ofTest t) → Bars true ons offs t
+      go bar (exists-at v t letter s) = λ w p n turn is. told .never bar t s (bind w v (is .0)) p n turn (is .2)
+
+  -- `<WT`, `gNNv`, and where a value is wanted for which T is untrue
   pub some-may : (truth : Bool) → MayTold text at truth ons offs true
   some-may truth = record { never = λ bar. absurd (true≢false bar) }
 

@@ -1,19 +1,19 @@
--- What a rule names stands in its text: behind an `a`, an `r` or an `f`. Knows document 01's text of a rule; no mask.
+-- What a rule names stands in its text: behind an `a`, an `r` or an `f`, where no name is a sum. Knows the text of a rule; no mask.
 use mathlib.Core.Path.{_≡_, refl}
 use mathlib.Core.Logic.{inl, inr}
 use mathlib.Core.List.{List}
 use Prim.Native.Nat.{ℕ, _+_, _<_}
 use native.Mathlib.Omega.{arith}
 use lib.ListN.{length, getD}
-use Rattle.meaning.specs.Rule.{Walk, Test, Rule, act, undo, next, prev, seq, alt, star, check, conv, always, fluent, neg, both, diamond}
+use Rattle.meaning.specs.Rule.{Walk, Test, Rule, act, undo, next, prev, seq, alt, star, check, conv, pick, always, fluent, neg, both, diamond, exists, Name, plain}
 use Rattle.meaning.specs.Rule.{ofTest, ofWalk, walkText, testText, walkNames, testNames}
 use Rattle.rule.specs.Standing.{Stands}
 use Rattle.rule.proofs.Spread.{Spread, spread, within, act-at, undo-at, next-at, prev-at, seq-at, alt-at, star-at, check-at, conv-at}
-use Rattle.rule.proofs.Spread.{always-at, fluent-at, neg-at, both-at, diamond-at}
-use Rattle.finish.specs.Worth.{Behind}
+use Rattle.rule.proofs.Spread.{always-at, fluent-at, neg-at, both-at, diamond-at, sum-act-at, sum-undo-at, pick-at, sum-fluent-at, exists-at}
+use Rattle.finish.specs.Worth.{Behind, Sum}
 
-module _ (bytes : List ℕ) (f g : ℕ → ℕ) (acts : (at n : ℕ) → at < length bytes → Behind bytes 97 114 at n → f n ≡ 0)
-    (shows : (at n : ℕ) → at < length bytes → Behind bytes 102 102 at n → g n ≡ 0) where
+module _ (bytes : List ℕ) (f g : Name → ℕ) (acts : (at n : ℕ) → at < length bytes → Behind bytes 97 114 at n → f (plain n) ≡ 0)
+    (shows : (at n : ℕ) → at < length bytes → Behind bytes 102 102 at n → g (plain n) ≡ 0) (unsummed : (at : ℕ) → at < length bytes → Sum (getD bytes at 0) → ⊥) where
   -- a walk and a test at a place of the text
   abbrev W : ℕ → Walk → Type 0
   W at x = Stands bytes at (ofWalk x)
@@ -32,11 +32,13 @@ module _ (bytes : List ℕ) (f g : ℕ → ℕ) (acts : (at n : ℕ) → at < le
   Parts at (ofWalk (star x)) = W (at + 1) x
   Parts at (ofWalk (check t)) = T (at + 1) t
   Parts at (ofWalk (conv x)) = W (at + 1) x
+  Parts at (ofWalk (pick v x)) = W (at + 2) x
   Parts at (ofTest always) = Unit {0}
   Parts at (ofTest (fluent i)) = g i ≡ 0
   Parts at (ofTest (neg t)) = T (at + 1) t
   Parts at (ofTest (both t u)) = T (at + 1) t × T (at + 1 + length (testText t)) u
   Parts at (ofTest (diamond x t)) = W (at + 1) x × T (at + 1 + length (walkText x)) t
+  Parts at (ofTest (exists v t)) = T (at + 2) t
 
   parts : (at : ℕ) → at < length bytes → {b : ℕ} {r : Rule} → Spread bytes at b r → getD bytes at 0 ≡ b → Parts at r
   parts at low (act-at a digits) e = acts at a low (inl e, digits)
@@ -53,6 +55,11 @@ module _ (bytes : List ℕ) (f g : ℕ → ℕ) (acts : (at n : ℕ) → at < le
   parts at low (neg-at t p) e = p
   parts at low (both-at t u p q) e = (p, q)
   parts at low (diamond-at x t p q) e = (p, q)
+  parts at low (sum-act-at a v digits letter) e = absurd (unsummed at low (inl e))
+  parts at low (sum-undo-at a v digits letter) e = absurd (unsummed at low (inr (inr e)))
+  parts at low (pick-at v x letter p) e = p
+  parts at low (sum-fluent-at i v digits letter) e = absurd (unsummed at low (inr (inl e)))
+  parts at low (exists-at v t letter p) e = p
 
   there : (at : ℕ) (r : Rule) → Stands bytes at r → Parts at r
   there at r h = parts at (within h) (spread h (getD bytes at 0) refl) refl
@@ -75,6 +82,7 @@ module _ (bytes : List ℕ) (f g : ℕ → ℕ) (acts : (at n : ℕ) → at < le
     names-none at (star x) h = names-none (at + 1) x (there at (ofWalk (star x)) h)
     names-none at (check t) h = test-none (at + 1) t (there at (ofWalk (check t)) h)
     names-none at (conv x) h = names-none (at + 1) x (there at (ofWalk (conv x)) h)
+    names-none at (pick v x) h = names-none (at + 2) x (there at (ofWalk (pick v x)) h)
 
     test-none : (at : ℕ) (x : Test) → Stands bytes at (ofTest x) → testNames f g x ≡ 0
     test-none at always h = refl
@@ -86,3 +94,4 @@ module _ (bytes : List ℕ) (f g : ℕ → ℕ) (acts : (at n : ℕ) → at < le
     test-none at (diamond x t) h =
         let p = there at (ofTest (diamond x t)) h in
         omega (arith, names-none (at + 1) x (p .0), test-none (at + 1 + length (walkText x)) t (p .1))
+    test-none at (exists v t) h = test-none (at + 2) t (there at (ofTest (exists v t)) h)

@@ -17,7 +17,7 @@ use Rattle.laws.proofs.Bitwise.{on-and, on-or, on-xor}
 use Rattle.laws.proofs.Shift.{on-not, on-one-shl, on-ones}
 use Rattle.meaning.specs.Limits.{actionLimit, fluentLimit}
 use Rattle.meaning.specs.Theory.{masksOf, stride}
-use Rattle.meaning.specs.Rule.{Walk}
+use Rattle.meaning.specs.Rule.{Walk, plain}
 use Rattle.meaning.specs.StandIn.{among, NamesNone, Idle, Alike, StandsIn}
 use Rattle.meaning.proofs.StandIn.{stand-in-leads, stand-in-able}
 use Rattle.spelling.specs.declared.Digits.the-variants.{Number, Other}
@@ -27,7 +27,7 @@ use Rattle.theory.specs.Subject.{subjectOf, tableMasks, worldOf}
 use Rattle.theory.specs.declared.Setting.{Setting}
 use Rattle.finish.specs.Sound.{Table}
 use Rattle.finish.proofs.Names.{names-none}
-use Rattle.finish.specs.Worth.{others, Behind, Named, Decisive, Like, Sifted, StoodIn, Worth}
+use Rattle.finish.specs.Worth.{others, Behind, Named, Sum, Unsummed, Decisive, Like, Sifted, StoodIn, Worth}
 
 -- what a word holds, the others lack; and what the others lack, it holds
 others-lack : (word i : ℕ) → on word i ≡ true → on (others word) i ≡ false
@@ -76,6 +76,19 @@ module _ (text : List ℕ) (one other : ℕ) where
       | yes e ↦ inr (here n few (subst (λ (i : ℕ). Behind text one other i n) e h))
       | no e ↦ inl (d .each at n (omega arith) few h)
     ]);
+  }
+
+-- no sum, a place after the other
+module _ (text : List ℕ) where
+  pub unsummed-none : Unsummed text 0
+  unsummed-none = record { each = λ at low. absurd (omega arith) }
+
+  pub unsummed-more : (k : ℕ) → (Sum (getD text k 0) → ⊥) → Unsummed text k → Unsummed text (k + 1)
+  unsummed-more k here d = record {
+    each = λ at low h. elim (ℕ-discrete at k) [
+      | yes e ↦ here (subst (λ (i : ℕ). Sum (getD text i 0)) e h)
+      | no e ↦ d .each at (omega arith) h
+    ];
   }
 
 -- the fluents of needs and bans, an action after the other
@@ -250,28 +263,28 @@ pub all-worth : (s : Setting) (masks job : List ℕ) → s .counts .actions ≤ 
 all-worth s masks job few = record { each = λ x j b low off. absurd (off-on off (unsifted-all b (omega arith) (omega arith))) }
 
 pub sifted-worth : (s : Setting) (masks job : List ℕ) (labels fluents decide kept : ℕ) → Table (s .counts .actions) masks
-    → Named job 97 114 (length job) labels → Named job 102 102 (length job) fluents → Decisive masks (s .counts .actions) decide
+    → Unsummed job (length job) → Named job 97 114 (length job) labels → Named job 102 102 (length job) fluents → Decisive masks (s .counts .actions) decide
     → Sifted masks (others labels) (others (bitOr fluents decide)) (s .counts .actions) kept → Worth s masks job kept
-sifted-worth s masks job labels fluents decide kept table acts shows d sift = record {
+sifted-worth s masks job labels fluents decide kept table none acts shows d sift = record {
   each = λ x j b low off.
       let found = sift .stood b low off in
       stand-in-completes s masks x (others labels) (others (bitOr fluents decide)) (found .0) b (idle-others masks (s .counts .actions) fluents decide table d)
-      (names-none job (among (others labels)) (among (others (bitOr fluents decide))) act-none fluent-none 0 x (j .there)) (found .1);
+      (names-none job (among (others labels)) (among (others (bitOr fluents decide))) act-none fluent-none (none .each) 0 x (j .there)) (found .1);
 }
   where
-    unheld : (word n : ℕ) → on word n ≡ true → among (others word) n ≡ 0
+    unheld : (word n : ℕ) → on word n ≡ true → among (others word) (plain n) ≡ 0
     unheld word n h = rw (others-lack word n h)
 
-    beyond : (word n : ℕ) → actionLimit ≤ n → among (others word) n ≡ 0
+    beyond : (word n : ℕ) → actionLimit ≤ n → among (others word) (plain n) ≡ 0
     beyond word n high = rw (on-high actionLimit {n = others word} (omega arith) high)
 
-    act-none : (at n : ℕ) → at < length job → Behind job 97 114 at n → among (others labels) n ≡ 0
+    act-none : (at n : ℕ) → at < length job → Behind job 97 114 at n → among (others labels) (plain n) ≡ 0
     act-none at n low h = elim (decLt n actionLimit) [
       | yes l ↦ unheld labels n (acts .each at n low l h)
       | no l ↦ beyond labels n (omega arith)
     ]
 
-    fluent-none : (at n : ℕ) → at < length job → Behind job 102 102 at n → among (others (bitOr fluents decide)) n ≡ 0
+    fluent-none : (at n : ℕ) → at < length job → Behind job 102 102 at n → among (others (bitOr fluents decide)) (plain n) ≡ 0
     fluent-none at n low h = elim (decLt n actionLimit) [
       | yes l ↦ unheld (bitOr fluents decide) n (on-or fluents decide n ∙ or-iff (on fluents n) (on decide n) .1 (inl (shows .each at n low l h)))
       | no l ↦ beyond (bitOr fluents decide) n (omega arith)

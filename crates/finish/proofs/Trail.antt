@@ -27,8 +27,10 @@ use Rattle.theory.proofs.Toggled.{toggled-on, toggled-off}
 use Rattle.theory.specs.declared.Setting.{Setting}
 use Rattle.finish.specs.Search.{stands, Ended, FirstOf, NoneOf, Allows, Tries}
 use Rattle.finish.specs.Sound.{JobIs, Logged, Ready, Shown}
+use Rattle.ask.specs.Values.{unbound}
 use Rattle.ask.specs.Asked.{EndTold}
 use Rattle.ask.specs.Found.{Tabled}
+use Rattle.ask.proofs.Bound.{bears-none}
 use Rattle.finish.specs.Lengths.{Guided}
 use Rattle.finish.specs.Found.{MayBegin, NextTold, OneLength, LengthTold}
 use Rattle.finish.specs.Worth.{Worth}
@@ -82,11 +84,11 @@ module _ (s : Setting) (masks job : List ℕ) where
 
   -- a sequence of no action
   pub leaf-told : (trail rows : List ℕ) (n : ℕ) (answer : Bool) → length (take n trail) ≡ n → length (take n trail) ≤ logLimit → Describes (At (take n trail)) rows
-      → EndTold job rows n answer → LengthTold s masks job trail n 0 trail answer
+      → EndTold job (s .counts .domain) rows n answer → LengthTold s masks job trail n 0 trail answer
   leaf-told trail rows n answer full short described told = record { kept = refl; each = λ x j. go x answer (whole x (told .each (At (take n trail)) tabled x (j .there))) }
     where
-      tabled : Tabled (At (take n trail)) rows n
-      tabled = record { described = described; logged = omega (arith, full); room = short }
+      tabled : Tabled (At (take n trail)) rows (unbound (s .counts .domain)) n
+      tabled = record { described = described; logged = omega (arith, full); room = short; bears = bears-none (At (take n trail)) refl }
 
       whole : (x : Walk) → (answer ≡ true) ↔ Leads (At (take n trail)) x 0 n n → (answer ≡ true) ↔ Ended (At (take n trail)) x (take n trail)
       whole x = subst (λ (e : ℕ). (answer ≡ true) ↔ Leads (At (take n trail)) x 0 e e) (sym full)

@@ -8,7 +8,7 @@ use lib.ListN.{length, getD, replicate}
 use Rattle.laws.specs.Bit.{on}
 use Rattle.meaning.specs.Limits.{fluentLimit, moreLimit, textLimit}
 use Rattle.meaning.specs.Theory.{World, stateAt}
-use Rattle.meaning.specs.Rule.{Walk, Test, act, undo, next, prev, seq, alt, star, check, conv, walkText, ofWalk, ofTest}
+use Rattle.meaning.specs.Rule.{Walk, Test, act, undo, next, prev, seq, alt, star, check, conv, pick, walkText, ofWalk, ofTest}
 use Rattle.meaning.specs.Leads.{Holds}
 use Rattle.meaning.specs.Lengths.{Turning, Measured, Grown}
 use Rattle.theory.specs.Subject.{Subject, worldOf}
@@ -43,6 +43,7 @@ Closed ons offs follow at (alt v x) = Closed ons offs follow (at + 1) v × Close
 Closed ons offs follow at (star x) = Measured ons offs follow (at + 1) x (getD follow at 0) (getD follow at 0) × Closed ons offs follow (at + 1) x
 Closed ons offs follow at (check t) = Unit {0}
 Closed ons offs follow at (conv x) = Unit {0}
+Closed ons offs follow at (pick v x) = Closed ons offs follow (at + 2) x
 
 -- outside so many places from a place on, the table is as it was
 abbrev pub Apart : ℕ → ℕ → List ℕ → List ℕ → Type 0

@@ -1,5 +1,5 @@
 -- Document 01, "Numbers of refusal", for the call that finishes a job: more (3), the rows of a world (3, 4, 5), those of a job
--- (6 to 9), the room (12); and, where none of these holds, what the search finds (11).
+-- (6 to 9, and 13 behind them), the room (12); and, where none of these holds, what the search finds (11).
 use mathlib.Core.Bool.{true}
 use mathlib.Core.List.{List, [], _∷_, _++_}
 use Prim.Native.Nat.{ℕ}

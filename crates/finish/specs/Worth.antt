@@ -28,6 +28,13 @@ Behind text one other at n = ((getD text at 0 ≡ one) ⊎ (getD text at 0 ≡ o
 pub record Named (text : List ℕ) (one other k word : ℕ) : Type 0 where
   pub each : (at n : ℕ) → at < k → n < actionLimit → Behind text one other at n → on word n ≡ true
 
+-- a sum, `bNNv`, `gNNv` or `sNNv`: its sign; and none stands in the first k places
+abbrev pub Sum : ℕ → Type 0
+Sum sign = (sign ≡ 98) ⊎ (sign ≡ 103) ⊎ (sign ≡ 115)
+
+pub record Unsummed (text : List ℕ) (k : ℕ) : Type 0 where
+  pub each : (at : ℕ) → at < k → Sum (getD text at 0) → ⊥
+
 -- the word holds each fluent of a need or a ban of the first k actions
 pub record Decisive (masks : List ℕ) (k word : ℕ) : Type 0 where
   pub needed : (a i : ℕ) → a < k → on (tableMasks masks a .need) i ≡ true → on word i ≡ true

@@ -105,6 +105,11 @@ fn before(
                 0
             }
         }
+        b'b' => stepped(at, behind, follow),
+        b'p' => {
+            let body = at + 2;
+            before(text, ends, body, behind, ons, offs, follow)
+        }
         _ => 0,
     }
 }

@@ -45,14 +45,14 @@ fn complete(
     requires { ⌜ Ready (s .counts .actions) (now masks) (now job) (now ends) (now trail) n left × Guided (subjectOf s (now masks) (take n (now trail))) (now job) (now follow) left × Worth s (now masks) (now job) worthy × Shown (worldOf (subjectOf s (now masks) (take n (now trail)))) (now rows) state ⌝ }
     ensures { λ r. ⌜ LengthTold s (now (masks .entry)) (now (job .entry)) (now (trail .entry)) n left (now (trail .exit)) r × RowsKept (worldOf (subjectOf s (now (masks .entry)) (take n (now (trail .entry))))) r (now (rows .exit)) ⌝ }
 {
+    let counts = s.counts;
     if left == 0 {
-        return job::ended(job, ends, rows, n);
+        return job::ended(job, ends, counts.domain, rows, n);
     }
     let rest = left - 1;
     let next = n + 1;
     let asked = tries(s, masks, job, ends, &trail[..n], rows, state, follow, rest);
     let tried = asked & worthy;
-    let counts = s.counts;
     let actions = counts.actions;
     let mut a = 0;
     while a < actions {
@@ -107,7 +107,8 @@ pub(crate) fn first(
 {
     let mut rows = [0u64; ROWS];
     transpose(s, masks, &trail[..n], &mut rows);
-    if job::ended(job, ends, &rows, n) {
+    let counts = s.counts;
+    if job::ended(job, ends, counts.domain, &rows, n) {
         return Found::At(0);
     }
     let most = longest(n, more);

@@ -1,8 +1,8 @@
 // Actions that a smaller one stands in for: the job names neither, both are possible in the same states, and both do the same to every fluent that
 // matters (named in the job, or in any need or ban). Of the sequences that finish, the first has none of them: with the smaller action in its place it
-// would come earlier. Knows the mask table and the job's text; no log.
+// would come earlier. A job with a variable in a name is taken to name all. Knows the mask table and the job's text; no log.
 ghost use mathlib.Core.Path.{_≡_};
-ghost use mathlib.Core.Bool.{true};
+ghost use mathlib.Core.Bool.{true, false};
 ghost use Prim.Native.Nat.{ℕ, _+_, _*_, _≤_, _<_};
 ghost use lib.ListN.{length};
 ghost use Rattle.laws.specs.Bit.{on};
@@ -13,7 +13,7 @@ ghost use Rattle.spelling.specs.declared.Digits.the-variants.{Number};
 ghost use Rattle.spelling.specs.Scan.{NumberAt};
 ghost use Rattle.theory.specs.Subject.{tableMasks};
 ghost use Rattle.finish.specs.Sound.{Table};
-ghost use Rattle.finish.specs.Worth.{others, Behind, Named, Decisive, Like, Sifted, Worth};
+ghost use Rattle.finish.specs.Worth.{others, Behind, Named, Sum, Unsummed, Decisive, Like, Sifted, Worth};
 use spelling::Digits;
 use spelling::scan::two_digits;
 use theory::ACTION_LIMIT;
@@ -165,17 +165,34 @@ fn sifted(masks: &[u32], actions: usize, unnamed: u64, matter: u64) -> u64
     kept
 }
 
-// Some sign takes any action. Where none does, the job asks for no action that it does not name, and there is nothing to leave out. The answer saves time
-// and decides nothing, so its contract says nothing.
-fn takes_any(job: &[u8]) -> bool {
+// A sum: `b`, `g` or `s`.
+fn sum(sign: u8) -> bool
+    ensures { λ r. ⌜ (r ≡ false → Sum sign → ⊥) ⌝ }
+{
+    match sign {
+        b'b' | b'g' | b's' => true,
+        _ => false,
+    }
+}
+
+// Some sign takes any action, and none is a sum. Where none takes any, the job asks for no action that it does not name, and there is nothing to leave out: this half of the answer
+// saves time and decides nothing. A sum may name any action and any fluent, so that nothing can be left out.
+fn takes_others(job: &[u8]) -> bool
+    ensures { λ r. ⌜ (r ≡ true → Unsummed (now (job .entry)) (length (now (job .entry)))) ⌝ }
+{
+    let mut any = false;
     let mut at = 0;
     while at < job.len() {
-        if job[at] == b'n' {
-            return true;
+        let sign = job[at];
+        if sum(sign) {
+            return false;
+        }
+        if sign == b'n' {
+            any = true;
         }
         at += 1;
     }
-    false
+    any
 }
 
 // The actions that are worth trying, bit a for action a.
@@ -183,7 +200,7 @@ pub(crate) fn worth(s: Setting, masks: &[u32], job: &[u8]) -> u64
     requires { ⌜ Table (s .counts .actions) (now masks) ⌝ }
     ensures { λ r. ⌜ Worth s (now (masks .entry)) (now (job .entry)) r ⌝ }
 {
-    if !takes_any(job) {
+    if !takes_others(job) {
         return !0;
     }
     let counts = s.counts;

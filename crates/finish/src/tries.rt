@@ -45,8 +45,8 @@ pub(crate) fn tries(
     ensures { λ r. ⌜ NextTold (allows (now (follow .entry)) left) (subjectOf s (now (masks .entry)) (now (log .entry))) (now (job .entry)) r ⌝ }
 {
     let end = log.len();
-    let asked = job::asked(job, ends, rows, end, follow, left);
     let counts = s.counts;
+    let asked = job::asked(job, ends, counts.domain, rows, end, follow, left);
     let able = doable(counts.actions, masks, state);
     able & asked
 }

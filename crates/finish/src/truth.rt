@@ -1,4 +1,5 @@
-// Whether a test of a job may come true, or untrue, as far as the fluents say that can still be on or off; a `<` may have either truth.
+// Whether a test of a job may come true, or untrue, as far as the fluents say that can still be on or off; a `<` may have either truth, and so may a `g`, whose
+// variable may have any value.
 ghost use mathlib.Core.Path.{_≡_};
 ghost use mathlib.Core.Bool.{false, cond, _&&_, _||_};
 ghost use Prim.Native.Nat.{_+_, _<_};
@@ -83,6 +84,15 @@ pub(crate) fn may_be(
             let one = may_be(text, ends, part, truth, ons, offs);
             let two = may_be(text, ends, other, truth, ons, offs);
             joined(truth, one, two)
+        }
+        // untrue where there are no values, whatever stands in it
+        b'e' => {
+            if truth {
+                let body = at + 2;
+                may_be(text, ends, body, true, ons, offs)
+            } else {
+                true
+            }
         }
         _ => true,
     }

@@ -1,9 +1,10 @@
-// The finish rows of document 01 that are not P, the paper's coffee delivery (Example 12), the limits and the refusals: a line for each call, with its answer
-// and what is left of an output of dots.
+// The finish rows of document 01 that are not P, the paper's coffee delivery (Example 12), the limits and the refusals, and jobs with variables (document 02, Q-2): a line for each
+// call, with its answer and what is left of an output of dots.
 mod show;
 
 use show::run;
 use show::run_into;
+use show::run_over;
 
 // The theory of document 01's examples.
 const LABELS: [u32; 12] = [0, 0, 1, 0, 1, 0, 2, 0, 0, 0, 0, 3];
@@ -190,9 +191,65 @@ fn bad_job() {
 fn short_output() {
     let mut short = [b'.'; 5];
     io::write_all(1, b"12 before 11\n");
-    run_into(2, 3, 0, &LABELS, b"\x01", b";a00a01", 6, &mut short);
-    run_into(2, 3, 0, &LABELS, b"\x01", b";a00a01", 5, &mut short);
-    run_into(2, 3, 0, &LABELS, b"", b";a00a01", 5, &mut short);
+    run_into(2, 3, 0, 0, &LABELS, b"\x01", b";a00a01", 6, &mut short);
+    run_into(2, 3, 0, 0, &LABELS, b"\x01", b";a00a01", 5, &mut short);
+    run_into(2, 3, 0, 0, &LABELS, b"", b";a00a01", 5, &mut short);
+}
+
+// Document 02, Q-2. An inner binding hides an outer one; 9 before 13.
+fn variables() {
+    io::write_all(1, b"some carton\n");
+    run_over(2, 3, 3, 0, &LABELS, b"", b"pvb00v", 1);
+    run_over(2, 3, 2, 0, &LABELS, b"", b"pvb01v", 6);
+    run_over(2, 3, 2, 0, &LABELS, b"", b"pv;b00vb01v", 6);
+    run_over(2, 3, 2, 0, &LABELS, b"", b"pv;b01vpvb00v", 6);
+    run_over(2, 3, 2, 0, &LABELS, b"", b"s00v", 6);
+    run_over(2, 3, 2, 0, &LABELS, b"", b"pvs00v", 6);
+    run_over(2, 3, 3, 0, &LABELS, b"", b"pv?<s00v1", 6);
+}
+
+// A sum may name any action, so that no smaller one stands in for another; a test over all values is not true where no value makes it so.
+fn sums() {
+    let masks = [0u32; 256];
+    io::write_all(1, b"some carton: stand-ins, lengths and tests\n");
+    run_over(3, 5, 1, 0, &ALIKE, b"", b";n?<pvs01v1", 6);
+    run_over(3, 5, 2, 0, &ALIKE, b"", b";*n?evg01v", 6);
+    run_over(3, 5, 1, 0, &ALIKE, b"", b";*n?evg02v", 6);
+    run_over(
+        0,
+        64,
+        14,
+        0,
+        &masks,
+        b"\x00",
+        b";*npv;b50v;b50v;b50v;b50v;b50vb50v",
+        6,
+    );
+    run_over(
+        0,
+        64,
+        14,
+        0,
+        &masks,
+        b"\x00",
+        b";*npv;b50v;b50v;b50v;b50v;b50vb50v",
+        5,
+    );
+    run_over(1, 64, 2, 0, &masks, b"", b";*n;?evf00pvb00v", 6);
+}
+
+fn bad_variables() {
+    let mut short = [b'.'; 5];
+    io::write_all(
+        1,
+        b"some carton: refusals 3, 6, 7 and 13, and 13 before 12\n",
+    );
+    run_over(2, 3, 17, 0, &LABELS, b"", b"pvb00v", 6);
+    run_over(2, 3, 0, 0, &LABELS, b"", b"pvb00v", 6);
+    run_over(2, 3, 3, 0, &LABELS, b"", b"pvb01v", 6);
+    run_over(2, 3, 2, 0, &LABELS, b"", b"b00v", 6);
+    run_over(2, 3, 2, 0, &LABELS, b"", b";pvb00vb00v", 6);
+    run_into(2, 3, 2, 0, &LABELS, b"", b"b00v", 6, &mut short);
 }
 
 fn main() {
@@ -208,4 +265,7 @@ fn main() {
     bad_world();
     bad_job();
     short_output();
+    variables();
+    sums();
+    bad_variables();
 }

@@ -43,10 +43,11 @@ fn answer_of(answer: FinishAnswer, out: &[u8]) {
     io::write_all(1, b"]\n");
 }
 
-// A call whose output is this one.
+// A call whose output is this one, where a variable has so many values, 0 for a call without variables.
 pub(crate) fn run_into(
     fluents: usize,
     actions: usize,
+    domain: usize,
     start: u32,
     masks: &[u32],
     log: &[u8],
@@ -58,14 +59,24 @@ pub(crate) fn run_into(
     actions_of(log, log.len());
     io::write_all(1, b" job=");
     io::write_all(1, job);
+    if 0 < domain {
+        if domain < 100 {
+            io::write_all(1, b" domain=");
+            two(domain as u8);
+        }
+    }
     io::write_all(1, b": ");
-    let counts = Counts { fluents, actions };
+    let counts = Counts {
+        fluents,
+        actions,
+        domain,
+    };
     let s = Setting { counts, start };
     let answer = finish(s, masks, log, job, more, out);
     answer_of(answer, out);
 }
 
-// A call whose output has room for the longest sequence.
+// A call whose output has room for the longest sequence; without variables, and with them.
 pub(crate) fn run(
     fluents: usize,
     actions: usize,
@@ -75,6 +86,29 @@ pub(crate) fn run(
     job: &[u8],
     more: usize,
 ) {
+    run_over(fluents, actions, 0, start, masks, log, job, more);
+}
+
+pub(crate) fn run_over(
+    fluents: usize,
+    actions: usize,
+    domain: usize,
+    start: u32,
+    masks: &[u32],
+    log: &[u8],
+    job: &[u8],
+    more: usize,
+) {
     let mut out = [b'.'; 6];
-    run_into(fluents, actions, start, masks, log, job, more, &mut out);
+    run_into(
+        fluents,
+        actions,
+        domain,
+        start,
+        masks,
+        log,
+        job,
+        more,
+        &mut out,
+    );
 }

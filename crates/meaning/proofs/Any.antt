@@ -7,16 +7,19 @@ use Prim.Native.Nat.{ℕ, zero, suc, _≤_}
 use native.Mathlib.Decide.{decLe}
 use native.Mathlib.Omega.{arith}
 use Rattle.meaning.specs.Theory.{World, stepAt}
-use Rattle.meaning.specs.Rule.{Walk, act, undo, next, prev, alt}
+use Rattle.meaning.specs.Rule.{Walk, plain, act, undo, next, prev}
+use Rattle.meaning.specs.Written.{choiceTo}
 use Rattle.meaning.specs.Leads.{Leads}
 
--- the choice of a sign with each number from 0 to k
-abbrev pub choiceTo : (ℕ → Walk) → ℕ → Walk
-choiceTo sign zero = sign 0
-choiceTo sign (suc k) = alt (choiceTo sign k) (sign (suc k))
+-- the signs `aNN` and `rNN`
+abbrev pub acts : ℕ → Walk
+acts a = act (plain a)
 
--- it leads where one of them does
-choice-leads : (w : World) (sign : ℕ → Walk) (k p q n : ℕ) → Leads w (choiceTo sign k) p q n ↔ ((a : ℕ) × (a ≤ k) × Leads w (sign a) p q n)
+abbrev pub undoes : ℕ → Walk
+undoes a = undo (plain a)
+
+-- a choice leads where one of its walks does
+pub choice-leads : (w : World) (sign : ℕ → Walk) (k p q n : ℕ) → Leads w (choiceTo sign k) p q n ↔ ((a : ℕ) × (a ≤ k) × Leads w (sign a) p q n)
 unfolding Leads
 choice-leads w sign k p q n = (onward k, back k)
   where
@@ -34,16 +37,16 @@ choice-leads w sign k p q n = (onward k, back k)
 
 -- where every step of the log is an action up to k
 module _ (w : World) (k : ℕ) (known : (p a : ℕ) → stepAt w p ≡ some a → a ≤ k) (p q n : ℕ) where
-  pub any-is-choice : Leads w next p q n ↔ Leads w (choiceTo act k) p q n
+  pub any-is-choice : Leads w next p q n ↔ Leads w (choiceTo acts k) p q n
   unfolding Leads
   any-is-choice = (
-    λ h. choice-leads w act k p q n .1 (h .0, known p (h .0) (h .1 .logged), h .1),
-    λ h. let (a, low, step) = choice-leads w act k p q n .0 h in (a, step),
+    λ h. choice-leads w acts k p q n .1 (h .0, known p (h .0) (h .1 .logged), h .1),
+    λ h. let (a, low, step) = choice-leads w acts k p q n .0 h in (a, step),
   )
 
-  pub any-back-is-choice : Leads w prev p q n ↔ Leads w (choiceTo undo k) p q n
+  pub any-back-is-choice : Leads w prev p q n ↔ Leads w (choiceTo undoes k) p q n
   unfolding Leads
   any-back-is-choice = (
-    λ h. choice-leads w undo k p q n .1 (h .0, known q (h .0) (h .1 .logged), h .1),
-    λ h. let (a, low, step) = choice-leads w undo k p q n .0 h in (a, step),
+    λ h. choice-leads w undoes k p q n .1 (h .0, known q (h .0) (h .1 .logged), h .1),
+    λ h. let (a, low, step) = choice-leads w undoes k p q n .0 h in (a, step),
   )

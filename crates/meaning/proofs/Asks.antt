@@ -9,9 +9,9 @@ use Prim.Native.Nat.{ℕ, _+_, _≤_, _<_}
 use native.Mathlib.Decide.{decLt}
 use native.Mathlib.Omega.{arith}
 use lib.ListN.{length, length-append}
-use Rattle.meaning.specs.Theory.{World, relog, stepAt}
-use Rattle.meaning.specs.Rule.{Walk, act, undo, next, prev, seq, alt, star, check, conv, backward}
-use Rattle.meaning.specs.Leads.{Rel, Leads, Then, Or, Many, stay, link}
+use Rattle.meaning.specs.Theory.{World, bind, numberIn, relog, stepAt}
+use Rattle.meaning.specs.Rule.{Walk, act, undo, next, prev, seq, alt, star, check, conv, pick, backward}
+use Rattle.meaning.specs.Leads.{Rel, Leads, Then, Or, Many, Pick, stay, link}
 use Rattle.meaning.specs.Asks.{Asks}
 use Rattle.meaning.specs.Finish.{Finishes}
 use Rattle.meaning.proofs.Theory.{getElem-seam}
@@ -45,11 +45,14 @@ or-waits : {k : ℕ} {r s : Rel} {x y : ℕ → Type 0} → Waits k r x → Wait
 or-waits f g p q n (inl h) low high = inl (f p q n h low high)
 or-waits f g p q n (inr h) low high = inr (g p q n h low high)
 
+pick-waits : {k d : ℕ} {r : ℕ → Rel} {x : ℕ → ℕ → Type 0} → ((i : ℕ) → Waits k (r i) (x i)) → Waits k (Pick d r) (λ p. (i : ℕ) × (i < d) × x i p)
+pick-waits f p q n h low high = (h .0, h .1, f (h .0) p q n (h .2) low high)
+
 waits : (w : World) (x : Walk) → backward x ≡ false → (k a : ℕ) → stepAt w k ≡ some a → Waits k (Leads w x) (λ p. Asks w x p k a)
 unfolding Leads backward Asks
 waits w (act c) b k a s = λ p q n h low high.
     let here : p ≡ k = omega arith in
-    let step : stepAt w p ≡ some c = h .logged in
+    let step : stepAt w p ≡ some (numberIn w c) = h .logged in
     (here, cc)
 waits w (undo c) b k a s = absurd (true≢false b)
 waits w next b k a s = λ p q n h low high. let step = h .1 in omega arith
@@ -63,6 +66,7 @@ waits w (alt v x) b k a s =
 waits w (star x) b k a s = many-waits (movable w x b) (waits w x b k a s)
 waits w (check t) b k a s = λ p q n h low high. absurd (omega arith)
 waits w (conv x) b k a s = absurd (true≢false b)
+waits w (pick v x) b k a s = pick-waits (λ i. waits (bind w v i) x b k a s)
 
 pub asks : (w : World) (x : Walk) (p q n k a : ℕ) → backward x ≡ false → Leads w x p q n → p ≤ k → k < q → stepAt w k ≡ some a → Asks w x p k a
 asks w x p q n k a b h low high s = waits w x b k a s p q n h low high
@@ -82,6 +86,7 @@ asks-kept w (star x) l l′ p k a e h =
     (h .0, chain-map (λ i j. leads-cut w x l l′ i j k e .0) (h .1), asks-kept w x l l′ (h .0) k a e (h .2))
 asks-kept w (check t) l l′ p k a e h = h
 asks-kept w (conv x) l l′ p k a e h = h
+asks-kept w (pick v x) l l′ p k a e h = (h .0, h .1, asks-kept (bind w v (h .0)) x l l′ p k a e (h .2))
 
 pub asks-cut : (w : World) (x : Walk) (l l′ : List ℕ) (p k a : ℕ) → Agree l l′ k → Asks (relog w l) x p k a ↔ Asks (relog w l′) x p k a
 asks-cut w x l l′ p k a e = (asks-kept w x l l′ p k a e, asks-kept w x l′ l p k a (sym e))

@@ -10,8 +10,8 @@ use native.Mathlib.Omega.{arith}
 use lib.ListN.{length, getElem?, length-append}
 use Rattle.laws.specs.Bit.{on}
 use Rattle.meaning.specs.Limits.{moreLimit}
-use Rattle.meaning.specs.Theory.{World, relog, run, stateAt, stepAt}
-use Rattle.meaning.specs.Rule.{Walk, act, undo, next, prev, seq, alt, star, check, conv, backward, walkText}
+use Rattle.meaning.specs.Theory.{World, bind, numberIn, relog, run, stateAt, stepAt}
+use Rattle.meaning.specs.Rule.{plain, plus, Walk, act, undo, next, prev, seq, alt, star, check, conv, pick, backward, walkText}
 use Rattle.meaning.specs.Leads.{Rel, Leads, Then, Many, stay, link}
 use Rattle.meaning.specs.Finish.{Able}
 use Rattle.meaning.specs.Asks.{Asks, AsksAt}
@@ -27,7 +27,8 @@ use Rattle.meaning.proofs.Measured.{Counted, counted, many-counted}
 pub all-ask : (may : ℕ → Bool) (w : World) (at : ℕ) (x : Walk) → ((i : ℕ) → i < at + length (walkText x) → may i ≡ true) → (p k a : ℕ)
     → AsksAt may w at x p k a ↔ Asks w x p k a
 unfolding Asks AsksAt walkText
-all-ask may w at (act b) all p k a = (λ h. (h .1, h .2), λ h. (all at (omega arith), h .0, h .1))
+all-ask may w at (act (plain b)) all p k a = (λ h. (h .1, h .2), λ h. (all at (omega arith), h .0, h .1))
+all-ask may w at (act (plus b v)) all p k a = (λ h. (h .1, h .2), λ h. (all at (omega arith), h .0, h .1))
 all-ask may w at (undo b) all p k a = (λ h. h, λ h. h)
 all-ask may w at next all p k a = (λ h. h .1, λ h. (all at (omega arith), h))
 all-ask may w at prev all p k a = (λ h. h, λ h. h)
@@ -48,6 +49,10 @@ all-ask may w at (star x) all p k a =
     (λ h. (h .0, h .1, one (h .0) k a .0 (h .2)), λ h. (h .0, h .1, one (h .0) k a .1 (h .2)))
 all-ask may w at (check t) all p k a = (λ h. h, λ h. h)
 all-ask may w at (conv x) all p k a = (λ h. h, λ h. h)
+all-ask may w at (pick v x) all p k a = (
+  λ h. (h .0, h .1, all-ask may (bind w v (h .0)) (at + 2) x (λ i l. all i (omega arith)) p k a .0 (h .2)),
+  λ h. (h .0, h .1, all-ask may (bind w v (h .0)) (at + 2) x (λ i l. all i (omega arith)) p k a .1 (h .2)),
+)
 
 -- what is asked for at k hangs on the first k steps
 pub asks-at-kept : (may : ℕ → Bool) (w : World) (at : ℕ) (x : Walk) (l l′ : List ℕ) (p k a : ℕ) → Agree l l′ k → AsksAt may (relog w l) at x p k a
@@ -65,6 +70,7 @@ asks-at-kept may w at (star x) l l′ p k a e h =
     (h .0, chain-map (λ i j. leads-cut w x l l′ i j k e .0) (h .1), asks-at-kept may w _ x l l′ (h .0) k a e (h .2))
 asks-at-kept may w at (check t) l l′ p k a e h = h
 asks-at-kept may w at (conv x) l l′ p k a e h = h
+asks-at-kept may w at (pick v x) l l′ p k a e h = (h .0, h .1, asks-at-kept may (bind w v (h .0)) _ x l l′ p k a e (h .2))
 
 -- r, where it goes from p past k and is t steps from the job's end behind the step at k, waits at k as x says
 abbrev Waits : ℕ → ℕ → Rel → ℕ → (ℕ → Type 0) → Type 0
@@ -101,7 +107,7 @@ waits : (w : World) (x : Walk) → backward x ≡ false → (ons offs : ℕ) (fo
 unfolding Leads backward AsksAt Measured
 waits w (act c) b ons offs f base k t a late most s turn at behind before h = λ p q n l step low high e same.
     let here : p ≡ k = omega (arith, step .onward) in
-    let named : stepAt w p ≡ some c = step .logged in
+    let named : stepAt w p ≡ some (numberIn w c) = step .logged in
     let left : l ≡ t = omega (arith, step .onward) in
     (h .0 t (rw left at e), here, cc)
 waits w (undo c) b ons offs f base k t a late most s turn at behind before h = absurd (true≢false b)
@@ -125,6 +131,8 @@ waits w (star x) b ons offs f base k t a late most s turn at behind before h =
     (waits w x b ons offs f base k t a late most s turn _ (h .0) (h .0) (h .2))
 waits w (check c) b ons offs f base k t a late most s turn at behind before h = λ p q n l step low high e same. absurd (omega (arith, step .0))
 waits w (conv x) b ons offs f base k t a late most s turn at behind before h = absurd (true≢false b)
+waits w (pick v x) b ons offs f base k t a late most s turn at behind before h = λ p q n l step low high e same.
+    (step .0, step .1, waits (bind w v (step .0)) x b ons offs f base k t a late most s turn _ behind before h p q n l (step .2) low high e same)
 
 -- So an action that a job takes next, with so many actions behind it, is one that a sign asks for at the end of the log that stands: where the table has been made for an
 -- earlier log, from which only actions of the theory have led on.

@@ -1,9 +1,10 @@
 -- The paper's Lemma 6: a walk goes from and to positions at most now. Knows the table of walks and nothing of the log's length.
+use Prim.Native.Nat.{ℕ}
 use native.Mathlib.Omega.{arith}
 use mathlib.Core.Logic.{inl, inr}
-use Rattle.meaning.specs.Theory.{World}
-use Rattle.meaning.specs.Rule.{Walk, act, undo, next, prev, seq, alt, star, check, conv}
-use Rattle.meaning.specs.Leads.{Rel, Leads, Back, Then, Or}
+use Rattle.meaning.specs.Theory.{World, bind}
+use Rattle.meaning.specs.Rule.{Walk, act, undo, next, prev, seq, alt, star, check, conv, pick}
+use Rattle.meaning.specs.Leads.{Rel, Leads, Back, Then, Or, Pick}
 use Rattle.meaning.proofs.Chain.{Within, many-within}
 
 then-within : {r s : Rel} → Within r → Within s → Within (Then r s)
@@ -12,6 +13,9 @@ then-within f g p q n h = (f p (h .0) n (h .1) .0, g (h .0) q n (h .2) .1)
 or-within : {r s : Rel} → Within r → Within s → Within (Or r s)
 or-within f g p q n (inl h) = f p q n h
 or-within f g p q n (inr h) = g p q n h
+
+pick-within : {d : ℕ} {r : ℕ → Rel} → ((k : ℕ) → Within (r k)) → Within (Pick d r)
+pick-within f p q n h = f (h .0) p q n (h .2)
 
 mutual
   unfolding Leads
@@ -26,6 +30,7 @@ mutual
   leads-within w (star x) = many-within (leads-within w x)
   leads-within w (check t) = λ p q n h. omega arith
   leads-within w (conv x) = back-within w x
+  leads-within w (pick v x) = pick-within (λ k. leads-within (bind w v k) x)
 
   pub back-within : (w : World) (x : Walk) → Within (Back w x)
   back-within w (act a) = λ p q n h. omega arith
@@ -38,3 +43,4 @@ mutual
   back-within w (star x) = many-within (back-within w x)
   back-within w (check t) = λ p q n h. omega arith
   back-within w (conv x) = leads-within w x
+  back-within w (pick v x) = pick-within (λ k. back-within (bind w v k) x)

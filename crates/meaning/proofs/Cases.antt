@@ -19,7 +19,7 @@ use Rattle.meaning.specs.Rule.{Walk, Rule, Kind, testKind, walkKind, job
 use Rattle.meaning.specs.Leads.{Leads, Holds}
 use Rattle.meaning.specs.Reach.{ReachedAs}
 use Rattle.meaning.specs.Normal.{normal, normalRule}
-use Rattle.meaning.specs.Cases.{CaseVerdict, yes, no, CaseEnding, sequence, refusal, Case, reach, verdict, form, finish, cases, jobWith}
+use Rattle.meaning.specs.Cases.{CaseVerdict, yes, no, CaseEnding, sequence, refusal, Case, reach, verdict, form, finish, cases, twoValues, threeValues, jobWith}
 use Rattle.meaning.specs.Cases.{SpelledAs, OfWalk, OfTest, IsSo, Finishing, CaseSays, AllSay}
 use Rattle.meaning.proofs.Bounds.{leads-within}
 use Rattle.laws.proofs.Count.{count-cut}
@@ -28,7 +28,7 @@ use Rattle.meaning.proofs.Tells.{Tells, eq-tells, le-tells, lt-tells, a
 use Rattle.meaning.proofs.Evaluate.{leadsGrid, leads-draws, valueOf, value-gives}
 use Rattle.meaning.proofs.Endings.{first, first-true, nothing, nothing-true}
 use Rattle.meaning.proofs.Reading.{readWalk, readTest, readRule, opens-of-read, unique-reading}
-use Rattle.meaning.proofs.Reading.Shapes.{Got, got, bad, readNumber}
+use Rattle.meaning.proofs.Reading.Shapes.{Got, got, bad, readNumber, readVariable}
 
 -- The text spells the rule that is read from it
 
@@ -113,48 +113,78 @@ module _ (w : World) (more : ℕ) where
       let is = and-tells (eq-tells number 11) Iff·rfl .0 e in
       (is .0, nothing-true w x more (is .1))
 
-right : Case → Bool
-unfolding spelled reaches told ends readWalk readTest readNumber normal walkText same
-right (reach log walk t n set count earliest) = spelled (reaches (jobWith log) t n set count earliest) (readRule walkKind (bytes walk))
-right (verdict log test t n answer) = spelled (told (jobWith log) t n answer) (readRule testKind (bytes test))
-right (form kind rule normal) = spelled (λ x. same (text (normalRule x)) (bytes normal)) (readRule kind (bytes rule))
-right (finish log job more ending) = spelled (ends (jobWith log) more ending) (readRule jobKind (bytes job))
+right : ℕ → Case → Bool
+unfolding spelled reaches told ends readWalk readTest readNumber readVariable normal walkText same
+right domain (reach log walk t n set count earliest) = spelled (reaches (jobWith domain log) t n set count earliest) (readRule walkKind (bytes walk))
+right domain (verdict log test t n answer) = spelled (told (jobWith domain log) t n answer) (readRule testKind (bytes test))
+right domain (form kind rule normal) = spelled (λ x. same (text (normalRule x)) (bytes normal)) (readRule kind (bytes rule))
+right domain (finish log job more ending) = spelled (ends (jobWith domain log) more ending) (readRule jobKind (bytes job))
 
-right-says : (c : Case) → right c ≡ true → CaseSays c
+right-says : (domain : ℕ) (c : Case) → right domain c ≡ true → CaseSays domain c
 unfolding right
-right-says (reach log walk t n set count earliest) =
-    spelled-true walkKind (bytes walk) (reaches (jobWith log) t n set count earliest) (reaches-true (jobWith log) t n set count earliest)
-right-says (verdict log test t n answer) =
-    spelled-true testKind (bytes test) (told (jobWith log) t n answer) (told-true (jobWith log) t n answer)
-right-says (form kind rule normal) =
+right-says domain (reach log walk t n set count earliest) =
+    spelled-true walkKind (bytes walk) (reaches (jobWith domain log) t n set count earliest) (reaches-true (jobWith domain log) t n set count earliest)
+right-says domain (verdict log test t n answer) =
+    spelled-true testKind (bytes test) (told (jobWith domain log) t n answer) (told-true (jobWith domain log) t n answer)
+right-says domain (form kind rule normal) =
     spelled-true kind (bytes rule) (λ x. same (text (normalRule x)) (bytes normal)) (λ x. same-tells (text (normalRule x)) (bytes normal) .0)
-right-says (finish log job more ending) =
-    spelled-true jobKind (bytes job) (ends (jobWith log) more ending) (ends-true (jobWith log) more ending)
+right-says domain (finish log job more ending) =
+    spelled-true jobKind (bytes job) (ends (jobWith domain log) more ending) (ends-true (jobWith domain log) more ending)
 
--- The list: all its cases are right, or the first wrong one with its number, counted from 1. (The refusal shows what it computes to as long as that takes
--- under 200,000 steps; the 23 cases take some 133,000.)
+-- A list: all its cases are right, or the first wrong one with its number, counted from 1. (The refusal shows what it computes to as long as that takes
+-- under 200,000 steps; the 23 cases of document 01 take some 133,000, for what is found has a name and is computed once.)
 
 data Checked : Type 0 where
   allRight : Checked
   wrong : ℕ → Case → Checked
 
-check : ℕ → List Case → Checked
-check k [] = allRight
-check k (c ∷ rest) = elim (right c) [ true ↦ check (suc k) rest | false ↦ wrong k c ]
+check : ℕ → ℕ → List Case → Checked
+check domain k [] = allRight
+check domain k (c ∷ rest) = elim (right domain c) [ true ↦ check domain (suc k) rest | false ↦ wrong k c ]
 
-all-say : (k : ℕ) (cs : List Case) → check k cs ≡ allRight → AllSay cs
+all-say : (domain k : ℕ) (cs : List Case) → check domain k cs ≡ allRight → AllSay domain cs
 unfolding check
-all-say k [] e = tt
-all-say k (c ∷ rest) e = go (right c) refl e (all-say (suc k) rest)
+all-say domain k [] e = tt
+all-say domain k (c ∷ rest) e = go (right domain c) refl e (all-say domain (suc k) rest)
   where
-    go : (b : Bool) → right c ≡ b → _≡_ {A = Checked} (elim b [ true ↦ check (suc k) rest | false ↦ wrong k c ]) allRight
-        → (check (suc k) rest ≡ allRight → AllSay rest) → CaseSays c × AllSay rest
-    go true r e further = (right-says c r, further e)
+    go : (b : Bool) → right domain c ≡ b → _≡_ {A = Checked} (elim b [ true ↦ check domain (suc k) rest | false ↦ wrong k c ]) allRight
+        → (check domain (suc k) rest ≡ allRight → AllSay domain rest) → CaseSays domain c × AllSay domain rest
+    go true r e further = (right-says domain c r, further e)
     go false r e further = let z : _≡_ {A = ℕ} 0 1 = cc in absurd (omega arith)
 
-checked : check 1 cases ≡ allRight
+found : Checked
 unfolding check right
+found = check 0 1 cases
+
+checked : found ≡ allRight
+unfolding found
 checked = refl
 
-pub all-cases : AllSay cases
-all-cases = all-say 1 cases checked
+pub all-cases : AllSay 0 cases
+unfolding found
+all-cases = all-say 0 1 cases checked
+
+-- and those of document 02, Q-2, with two values and with three
+found-two : Checked
+unfolding check right
+found-two = check 2 1 twoValues
+
+checked-two : found-two ≡ allRight
+unfolding found-two
+checked-two = refl
+
+pub two-values : AllSay 2 twoValues
+unfolding found-two
+two-values = all-say 2 1 twoValues checked-two
+
+found-three : Checked
+unfolding check right
+found-three = check 3 1 threeValues
+
+checked-three : found-three ≡ allRight
+unfolding found-three
+checked-three = refl
+
+pub three-values : AllSay 3 threeValues
+unfolding found-three
+three-values = all-say 3 1 threeValues checked-three

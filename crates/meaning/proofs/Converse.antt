@@ -2,9 +2,9 @@
 use mathlib.Core.Path.{_≡_, refl, sym, subst}
 use mathlib.Core.Logic.{_↔_, Iff·rfl, Iff·symm, inl, inr}
 use Prim.Native.Nat.{ℕ, _≤_}
-use Rattle.meaning.specs.Theory.{World}
-use Rattle.meaning.specs.Rule.{Walk, act, undo, next, prev, seq, alt, star, check, conv}
-use Rattle.meaning.specs.Leads.{Rel, Truth, Leads, Back, Holds, Then, Or, Many, Here, ownNow}
+use Rattle.meaning.specs.Theory.{World, bind}
+use Rattle.meaning.specs.Rule.{Walk, act, undo, next, prev, seq, alt, star, check, conv, pick}
+use Rattle.meaning.specs.Leads.{Rel, Truth, Leads, Back, Holds, Then, Or, Many, Here, Pick, ownNow}
 use Rattle.meaning.proofs.Chain.{Within, chain-turn}
 use Rattle.meaning.proofs.Bounds.{leads-within, back-within}
 
@@ -27,6 +27,9 @@ or-exchanged f g p q n = (
 many-exchanged : {r s : Rel} → Within r → Within s → Exchanged r s → Exchanged (Many r) (Many s)
 many-exchanged low low′ f p q n = (chain-turn low (λ i j. f i j n .0), chain-turn low′ (λ i j. f j i n .1))
 
+pick-exchanged : {d : ℕ} {r s : ℕ → Rel} → ((k : ℕ) → Exchanged (r k) (s k)) → Exchanged (Pick d r) (Pick d s)
+pick-exchanged f p q n = (λ h. (h .0, h .1, f (h .0) p q n .0 (h .2)), λ h. (h .0, h .1, f (h .0) p q n .1 (h .2)))
+
 -- a test has then and now at the place itself, so it is its own converse
 here-turn : (w : World) (x : Truth) (p q n : ℕ) → Here w x p q n → Here w x q p n
 here-turn w x p q n h = subst (λ (k : ℕ). (p ≡ k) × (k ≤ n) × x k (ownNow w k n)) (sym (h .0)) (refl, h .1, h .2)
@@ -45,6 +48,7 @@ back-exchanged w (alt v x) = or-exchanged (back-exchanged w v) (back-exchanged w
 back-exchanged w (star x) = many-exchanged (back-within w x) (leads-within w x) (back-exchanged w x)
 back-exchanged w (check t) = here-exchanged w (Holds w t)
 back-exchanged w (conv x) = λ p q n. Iff·symm (back-exchanged w x q p n)
+back-exchanged w (pick v x) = pick-exchanged (λ k. back-exchanged (bind w v k) x)
 
 -- `-W` is W from q to p
 pub converse : (w : World) (x : Walk) (p q n : ℕ) → Leads w (conv x) p q n ↔ Leads w x q p n

@@ -8,9 +8,9 @@ use native.Mathlib.Omega.{arith}
 use lib.ListN.{length, take}
 use lib.Seq.{take-take, take-append-le}
 use Rattle.laws.specs.Bit.{on}
-use Rattle.meaning.specs.Theory.{Possible, World, relog}
-use Rattle.meaning.specs.Rule.{Walk, Test, act, undo, next, prev, seq, alt, star, check, conv, always, fluent, neg, both, diamond}
-use Rattle.meaning.specs.Leads.{Rel, Truth, Leads, Back, Holds, Step, AnyStep, Then, Or, Many, Here, Some, ownNow}
+use Rattle.meaning.specs.Theory.{Possible, World, bind, numberIn, relog}
+use Rattle.meaning.specs.Rule.{Walk, Test, act, undo, next, prev, seq, alt, star, check, conv, pick, always, fluent, neg, both, diamond, exists}
+use Rattle.meaning.specs.Leads.{Rel, Truth, Leads, Back, Holds, Step, AnyStep, Then, Or, Many, Here, Some, Pick, Exists, ownNow}
 use Rattle.meaning.proofs.Chain.{Within, chain-map}
 use Rattle.meaning.proofs.Bounds.{leads-within}
 use Rattle.meaning.proofs.Converse.{back-exchanged}
@@ -47,6 +47,12 @@ many-kept f p q n e h = chain-map (λ i j. f i j n e) h
 pub some-stays : {c : ℕ → Type 0} {r s : Rel} {x y : Truth} → Within r → Kept c r s → Stays c x y → Stays c (Some r x) (Some s y)
 some-stays low f g t n e l h = (h .0, f t (h .0) n e (h .1), g (h .0) n e (low t (h .0) n (h .1) .1) (h .2))
 
+pick-kept : {c : ℕ → Type 0} {d : ℕ} {r s : ℕ → Rel} → ((k : ℕ) → Kept c (r k) (s k)) → Kept c (Pick d r) (Pick d s)
+pick-kept f p q n e h = (h .0, h .1, f (h .0) p q n e (h .2))
+
+exists-stays : {c : ℕ → Type 0} {d : ℕ} {x y : ℕ → Truth} → ((k : ℕ) → Stays c (x k) (y k)) → Stays c (Exists d x) (Exists d y)
+exists-stays f t n e l h = (h .0, h .1, f (h .0) t n e l (h .2))
+
 -- what the converse relates is what the walk relates from q to p
 pub turned-kept : {c : ℕ → Type 0} {r r′ s s′ : Rel} → ((p q n : ℕ) → r′ p q n ↔ r q p n) → ((p q n : ℕ) → s′ p q n ↔ s q p n) → Kept c r s → Kept c r′ s′
 turned-kept turn turn′ f p q n e h = turn′ p q n .1 (f q p n e (turn p q n .0 h))
@@ -76,8 +82,8 @@ mutual
   unfolding Leads
 
   leads-kept : (w : World) (x : Walk) (l l′ : List ℕ) → Kept (Agree l l′) (Leads (relog w l) x) (Leads (relog w l′) x)
-  leads-kept w (act a) = λ l l′. step-kept w l l′ a
-  leads-kept w (undo a) = λ l l′ p q. step-kept w l l′ a q p
+  leads-kept w (act a) = λ l l′. step-kept w l l′ (numberIn w a)
+  leads-kept w (undo a) = λ l l′ p q. step-kept w l l′ (numberIn w a) q p
   leads-kept w next = λ l l′. any-kept w l l′
   leads-kept w prev = λ l l′ p q. any-kept w l l′ q p
   leads-kept w (seq v x) = λ l l′. then-kept (leads-kept w v l l′) (leads-kept w x l l′)
@@ -85,13 +91,15 @@ mutual
   leads-kept w (star x) = λ l l′. many-kept (leads-kept w x l l′)
   leads-kept w (check t) = λ l l′. here-kept w l l′ (holds-stays w t l l′)
   leads-kept w (conv x) = λ l l′. turned-kept (back-exchanged (relog w l) x) (back-exchanged (relog w l′) x) (leads-kept w x l l′)
+  leads-kept w (pick v x) = λ l l′. pick-kept (λ k. leads-kept (bind w v k) x l l′)
 
   holds-stays : (w : World) (x : Test) (l l′ : List ℕ) → Stays (Agree l l′) (Holds (relog w l) x) (Holds (relog w l′) x)
   holds-stays w always = λ l l′ t n e h x. x
-  holds-stays w (fluent i) = λ l l′ t n e h x. subst (λ (s : ℕ). on s i ≡ true) (state-cut w l l′ t n e h) x
+  holds-stays w (fluent i) = λ l l′ t n e h x. subst (λ (s : ℕ). on s (numberIn w i) ≡ true) (state-cut w l l′ t n e h) x
   holds-stays w (neg x) = λ l l′ t n e h no-x y. no-x (holds-stays w x l′ l t n (sym e) h y)
   holds-stays w (both x y) = λ l l′ t n e h z. (holds-stays w x l l′ t n e h (z .0), holds-stays w y l l′ t n e h (z .1))
   holds-stays w (diamond v x) = λ l l′. some-stays (leads-within (relog w l) v) (leads-kept w v l l′) (holds-stays w x l l′)
+  holds-stays w (exists v x) = λ l l′. exists-stays (λ k. holds-stays (bind w v k) x l l′)
 
 pub leads-cut : (w : World) (x : Walk) (l l′ : List ℕ) (p q n : ℕ) → Agree l l′ n → Leads (relog w l) x p q n ↔ Leads (relog w l′) x p q n
 leads-cut w x l l′ p q n e = (leads-kept w x l l′ p q n e, leads-kept w x l′ l p q n (sym e))

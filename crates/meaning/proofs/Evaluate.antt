@@ -1,21 +1,21 @@
 -- An evaluator that computes: rows of a walk, with one now, and the value of a test. It is the meaning of document 01, for every world, walk and test.
 -- It asks the definitions themselves for a state, a step and a test's own now, so that a change of one of them changes what is computed.
-use mathlib.Core.Path.{_≡_, subst}
+use mathlib.Core.Path.{_≡_, refl, ap, subst, subst⁻¹}
 use mathlib.Core.Logic.{Iff·rfl}
-use mathlib.Core.Bool.{Bool, true, false, not, _&&_}
+use mathlib.Core.Bool.{Bool, true, false, not, _&&_, _||_}
 use mathlib.Core.Option.{Option, none, some, Option·none-ne-some}
-use Prim.Native.Nat.{ℕ, suc, _+_}
+use Prim.Native.Nat.{ℕ, zero, suc, _+_}
 use native.Mathlib.Omega.{arith}
 use lib.Dec.{eqb, leb}
 use Rattle.laws.specs.Bit.{on, gather}
-use Rattle.meaning.specs.Theory.{Masks, World, after, run, stateAt}
-use Rattle.meaning.specs.Rule.{Walk, Test, act, undo, next, prev, seq, alt, star, check, conv, always, fluent, neg, both, diamond}
-use Rattle.meaning.specs.Leads.{Rel, Truth, Taken, Step, AnyStep, Here, ownNow, Some, Leads, Back, Holds}
+use Rattle.meaning.specs.Theory.{Masks, World, bind, numberIn, after, run, stateAt}
+use Rattle.meaning.specs.Rule.{Walk, Test, act, undo, next, prev, seq, alt, star, check, conv, pick, always, fluent, neg, both, diamond, exists}
+use Rattle.meaning.specs.Leads.{Rel, Truth, Taken, Step, AnyStep, Here, ownNow, Some, Exists, Leads, Back, Holds}
 use Rattle.meaning.proofs.Chain.{Within}
 use Rattle.meaning.proofs.Bounds.{leads-within, back-within}
 use Rattle.meaning.proofs.Tells.{Tells, true-tells, false-tells, eq-tells, le-tells, and-tells, not-tells, tells-as, anyBelow, any-tells}
 use Rattle.meaning.proofs.Possible.{possible, possible-tells}
-use Rattle.meaning.proofs.Grid.{Grid, Draws, kept, kept-draws, turnedGrid, turned-draws, thenGrid, then-draws, orGrid, or-draws, manyGrid, many-draws}
+use Rattle.meaning.proofs.Grid.{Grid, Draws, kept, kept-draws, turnedGrid, turned-draws, thenGrid, then-draws, orGrid, or-draws, manyGrid, many-draws, pickGrid, pick-draws}
 
 -- The leaves of the table of walks
 
@@ -122,14 +122,28 @@ some-gives low f k t n =
     tells-as (any-tells (λ q. and-tells (f t q n) (k q n)) (suc n)) (λ h. (h .0, h .2 .0, h .2 .1))
     (λ h. (h .0, omega (arith, low t (h .0) n (h .1)), (h .1, h .2)))
 
+-- for some value: each value's answers are made once for a now
+unfoldable pub existsValue : ℕ → (ℕ → Value) → Value
+existsValue zero v n = λ t. false
+existsValue (suc d) v n = let one = v d n in let others = existsValue d v n in λ t. one t || others t
+
+exists-gives : {d : ℕ} {x : ℕ → Truth} {v : ℕ → Value} → ((k : ℕ) → Gives (v k) (x k)) → Gives (existsValue d v) (Exists d x)
+unfolding existsValue anyBelow
+exists-gives {d} {x} {v} f t n = subst⁻¹ (λ (b : Bool). Tells b (Exists d x t n)) (value-is d)
+    (tells-as (any-tells (λ k. f k t n) d) (λ h. (h .0, omega arith, h .2)) (λ h. (h .0, omega arith, h .2)))
+  where
+    value-is : (k : ℕ) → existsValue k v n t ≡ anyBelow k (λ i. v i n t)
+    value-is zero = refl
+    value-is (suc k) = ap (λ (b : Bool). v k n t || b) (value-is k)
+
 -- The evaluator, sign by sign, as the two tables have it
 
 unfoldable mutual
-  unfolding stepGrid turnedGrid anyGrid thenGrid orGrid manyGrid hereGrid notValue bothValue someValue run after gather on
+  unfolding stepGrid turnedGrid anyGrid thenGrid orGrid manyGrid hereGrid pickGrid notValue bothValue someValue existsValue run after gather on
 
   pub leadsGrid : World → Walk → Grid
-  leadsGrid w (act a) = stepGrid w a
-  leadsGrid w (undo a) = turnedGrid (stepGrid w a)
+  leadsGrid w (act a) = stepGrid w (numberIn w a)
+  leadsGrid w (undo a) = turnedGrid (stepGrid w (numberIn w a))
   leadsGrid w next = anyGrid w
   leadsGrid w prev = turnedGrid (anyGrid w)
   leadsGrid w (seq v x) = thenGrid (leadsGrid w v) (leadsGrid w x)
@@ -137,10 +151,11 @@ unfoldable mutual
   leadsGrid w (star x) = manyGrid (leadsGrid w x)
   leadsGrid w (check t) = hereGrid w (valueOf w t)
   leadsGrid w (conv x) = backGrid w x
+  leadsGrid w (pick v x) = pickGrid (w .domain) (λ k. leadsGrid (bind w v k) x)
 
   pub backGrid : World → Walk → Grid
-  backGrid w (act a) = turnedGrid (stepGrid w a)
-  backGrid w (undo a) = stepGrid w a
+  backGrid w (act a) = turnedGrid (stepGrid w (numberIn w a))
+  backGrid w (undo a) = stepGrid w (numberIn w a)
   backGrid w next = turnedGrid (anyGrid w)
   backGrid w prev = anyGrid w
   backGrid w (seq v x) = thenGrid (backGrid w x) (backGrid w v)
@@ -148,13 +163,15 @@ unfoldable mutual
   backGrid w (star x) = manyGrid (backGrid w x)
   backGrid w (check t) = hereGrid w (valueOf w t)
   backGrid w (conv x) = leadsGrid w x
+  backGrid w (pick v x) = pickGrid (w .domain) (λ k. backGrid (bind w v k) x)
 
   pub valueOf : World → Test → Value
   valueOf w always = λ n t. true
-  valueOf w (fluent i) = λ n t. on (stateAt w t) i
+  valueOf w (fluent i) = λ n t. on (stateAt w t) (numberIn w i)
   valueOf w (neg x) = notValue (valueOf w x)
   valueOf w (both x y) = bothValue (valueOf w x) (valueOf w y)
   valueOf w (diamond v x) = someValue (leadsGrid w v) (valueOf w x)
+  valueOf w (exists v x) = existsValue (w .domain) (λ k. valueOf (bind w v k) x)
 
 -- The evaluator is the meaning
 
@@ -162,8 +179,8 @@ mutual
   unfolding leadsGrid Leads
 
   pub leads-draws : (w : World) (x : Walk) → Draws (leadsGrid w x) (Leads w x)
-  leads-draws w (act a) = step-draws w a
-  leads-draws w (undo a) = turned-draws (step-draws w a)
+  leads-draws w (act a) = step-draws w (numberIn w a)
+  leads-draws w (undo a) = turned-draws (step-draws w (numberIn w a))
   leads-draws w next = any-draws w
   leads-draws w prev = turned-draws (any-draws w)
   leads-draws w (seq v x) = then-draws (leads-within w v) (leads-within w x) (leads-draws w v) (leads-draws w x)
@@ -171,10 +188,11 @@ mutual
   leads-draws w (star x) = many-draws (leads-within w x) (leads-draws w x)
   leads-draws w (check t) = here-draws w (value-gives w t)
   leads-draws w (conv x) = back-draws w x
+  leads-draws w (pick v x) = pick-draws (λ k. leads-draws (bind w v k) x)
 
   pub back-draws : (w : World) (x : Walk) → Draws (backGrid w x) (Back w x)
-  back-draws w (act a) = turned-draws (step-draws w a)
-  back-draws w (undo a) = step-draws w a
+  back-draws w (act a) = turned-draws (step-draws w (numberIn w a))
+  back-draws w (undo a) = step-draws w (numberIn w a)
   back-draws w next = turned-draws (any-draws w)
   back-draws w prev = any-draws w
   back-draws w (seq v x) = then-draws (back-within w x) (back-within w v) (back-draws w x) (back-draws w v)
@@ -182,6 +200,7 @@ mutual
   back-draws w (star x) = many-draws (back-within w x) (back-draws w x)
   back-draws w (check t) = here-draws w (value-gives w t)
   back-draws w (conv x) = leads-draws w x
+  back-draws w (pick v x) = pick-draws (λ k. back-draws (bind w v k) x)
 
   pub value-gives : (w : World) (x : Test) → Gives (valueOf w x) (Holds w x)
   value-gives w always = λ t n. true-tells tt
@@ -189,3 +208,4 @@ mutual
   value-gives w (neg x) = λ t n. not-tells (value-gives w x t n)
   value-gives w (both x y) = λ t n. and-tells (value-gives w x t n) (value-gives w y t n)
   value-gives w (diamond v x) = some-gives (leads-within w v) (leads-draws w v) (value-gives w x)
+  value-gives w (exists v x) = exists-gives (λ k. value-gives (bind w v k) x)

@@ -1,6 +1,6 @@
--- Grids: a relation between positions as rows of tests that compute. The signs of the table of walks on grids (turned, then, or, many), each with the
+-- Grids: a relation between positions as rows of tests that compute. The signs of the table of walks on grids (turned, then, or, many, pick), each with the
 -- proof that it draws what the table says. Many is Warshall's closure, one position after another. Knows of relations only, not of walks.
-use mathlib.Core.Path.{_≡_, refl, subst, subst⁻¹}
+use mathlib.Core.Path.{_≡_, refl, ap, subst, subst⁻¹}
 use mathlib.Core.Logic.{_⊎_, inl, inr, ⊎-elim, Iff·rfl}
 use mathlib.Core.Bool.{Bool, true, false, _&&_, _||_, cond}
 use mathlib.Core.List.{List, [], _∷_}
@@ -9,7 +9,7 @@ use native.Mathlib.Nat.{eq-or-lt-of-le, le-of-suc-le-suc}
 use native.Mathlib.Omega.{arith}
 use lib.Dec.{eqb, leb, ltb, leb·zero, leb·suc-zero, leb·suc-suc}
 use lib.ListN.{getD}
-use Rattle.meaning.specs.Leads.{Rel, Chain, Many, Turned, Then, Or, stay, link}
+use Rattle.meaning.specs.Leads.{Rel, Chain, Many, Turned, Then, Or, Pick, stay, link}
 use Rattle.meaning.proofs.Chain.{Within, chain-one, chain-append, many-within}
 use Rattle.meaning.proofs.Tells.{Tells, eq-tells, le-tells, lt-tells, and-tells, or-tells, tells-as, anyBelow, any-tells}
 
@@ -92,6 +92,20 @@ orGrid g h n = let one = g n in let other = h n in λ p q. one p q || other p q
 pub or-draws : {r s : Rel} {g h : Grid} → Draws g r → Draws h s → Draws (orGrid g h) (Or r s)
 unfolding orGrid
 or-draws f k p q n = or-tells (f p q n) (k p q n)
+
+-- the grid of each value, of so many
+unfoldable pub pickGrid : ℕ → (ℕ → Grid) → Grid
+pickGrid zero g n = λ p q. false
+pickGrid (suc d) g n = let one = g d n in let others = pickGrid d g n in λ p q. one p q || others p q
+
+pub pick-draws : {d : ℕ} {r : ℕ → Rel} {g : ℕ → Grid} → ((k : ℕ) → Draws (g k) (r k)) → Draws (pickGrid d g) (Pick d r)
+unfolding pickGrid anyBelow
+pick-draws {d} {r} {g} f p q n = subst⁻¹ (λ (b : Bool). Tells b (Pick d r p q n)) (grid-is d)
+    (tells-as (any-tells (λ k. f k p q n) d) (λ h. (h .0, omega arith, h .2)) (λ h. (h .0, omega arith, h .2)))
+  where
+    grid-is : (k : ℕ) → pickGrid k g n p q ≡ anyBelow k (λ i. g i n p q)
+    grid-is zero = refl
+    grid-is (suc k) = ap (λ (b : Bool). g k n p q || b) (grid-is k)
 
 -- chains that pass, between their ends, through positions below k only
 unfoldable pub through : ℕ → Rows → ℕ → Rows

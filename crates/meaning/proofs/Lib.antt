@@ -22,3 +22,9 @@ pub mod Any
 pub mod Turning
 pub mod Measured
 pub mod AsksAt
+pub mod Variables
+pub mod Written
+pub mod SpelledOut
+pub mod Plain
+pub mod Named
+pub mod Waiting

@@ -12,8 +12,8 @@ use Rattle.laws.proofs.Truth.{off-on, or-iff}
 use Rattle.laws.proofs.On.{on-none}
 use Rattle.laws.proofs.Bitwise.{on-or}
 use Rattle.meaning.specs.Limits.{moreLimit}
-use Rattle.meaning.specs.Theory.{World, stateAt}
-use Rattle.meaning.specs.Rule.{Walk, act, undo, next, prev, seq, alt, star, check, conv, backward}
+use Rattle.meaning.specs.Theory.{World, bind, stateAt}
+use Rattle.meaning.specs.Rule.{Walk, act, undo, next, prev, seq, alt, star, check, conv, pick, backward}
 use Rattle.meaning.specs.Leads.{Rel, Leads, Then, Many, stay, link, ownNow}
 use Rattle.meaning.specs.Lengths.{Turning, Inside, Longer, Measured, Grown}
 use Rattle.meaning.proofs.Onward.{Onward, neither, onward, many-onward}
@@ -49,6 +49,7 @@ measured-none ons offs follow at (alt v x) = (measured-none ons offs follow _ v,
 measured-none ons offs follow at (star x) = (0, none-inside 0, measured-none ons offs follow _ x, none-inside 0)
 measured-none ons offs follow at (check t) = inr (none-inside 0)
 measured-none ons offs follow at (conv x) = tt
+measured-none ons offs follow at (pick v x) = measured-none ons offs follow _ x
 
 -- of fewer behind it, of more before it, and in a table that has grown
 pub measured-wide : (ons offs : ℕ) (follow larger : List ℕ) (at : ℕ) (x : Walk) (behind before fewer more : ℕ) → Grown follow larger → Inside fewer behind → Inside before more
@@ -74,6 +75,7 @@ measured-wide ons offs f f′ at (star x) b r b′ r′ g fewer more h = (
 measured-wide ons offs f f′ at (check t) b r b′ r′ g fewer more (inl never) = inl never
 measured-wide ons offs f f′ at (check t) b r b′ r′ g fewer more (inr h) = inr (λ l e. more l (h l (fewer l e)))
 measured-wide ons offs f f′ at (conv x) b r b′ r′ g fewer more h = tt
+measured-wide ons offs f f′ at (pick v x) b r b′ r′ g fewer more h = measured-wide ons offs f f′ _ x b r b′ r′ g fewer more h
 
 -- of two sets of lengths behind it together
 pub measured-both : (ons offs : ℕ) (follow : List ℕ) (at : ℕ) (x : Walk) (b c r s : ℕ) → Measured ons offs follow at x b r → Measured ons offs follow at x c s
@@ -97,6 +99,7 @@ measured-both ons offs f at (check t) b c r s (inl never) k = inl never
 measured-both ons offs f at (check t) b c r s (inr h) (inl never) = inl never
 measured-both ons offs f at (check t) b c r s (inr h) (inr k) = inr (both-inside b c r s h k)
 measured-both ons offs f at (conv x) b c r s h k = tt
+measured-both ons offs f at (pick v x) b c r s h k = measured-both ons offs f _ x b c r s h k
 
 -- From a position at or behind `base` the relation takes only such lengths: l steps are left behind its end, and t before it.
 abbrev pub Counted : ℕ → Rel → ℕ → ℕ → Type 0
@@ -146,3 +149,5 @@ counted w (check c) b ons offs f base turn at behind before h = λ p q n l t low
     (λ i. subst (λ (j : ℕ). on before j ≡ true) (omega (arith, s .0)) (i l k))
     h
 counted w (conv x) b ons offs f base turn at behind before h = absurd (true≢false b)
+counted w (pick v x) b ons offs f base turn at behind before h = λ p q n l t low s k same most.
+    counted (bind w v (s .0)) x b ons offs f base turn _ behind before h p q n l t low (s .2) k same most

@@ -5,9 +5,9 @@ use mathlib.Core.Logic.{inl, inr}
 use mathlib.Core.Bool.{Bool, true, false, _||_, true≢false}
 use Prim.Native.Nat.{ℕ, _≤_}
 use native.Mathlib.Omega.{arith}
-use Rattle.meaning.specs.Theory.{World}
-use Rattle.meaning.specs.Rule.{Walk, act, undo, next, prev, seq, alt, star, check, conv, backward}
-use Rattle.meaning.specs.Leads.{Rel, Leads, Step, Then, Or, Many, ownNow, stay, link}
+use Rattle.meaning.specs.Theory.{World, bind, numberIn}
+use Rattle.meaning.specs.Rule.{Walk, act, undo, next, prev, seq, alt, star, check, conv, pick, backward}
+use Rattle.meaning.specs.Leads.{Rel, Leads, Step, Then, Or, Many, Pick, ownNow, stay, link}
 use Rattle.meaning.proofs.Bounds.{leads-within}
 
 -- what a walk of two parts with no backward sign says of its parts
@@ -35,6 +35,9 @@ pub many-onward : {r : Rel} → Onward r → Onward (Many r)
 many-onward f p q n (stay e low) = omega arith
 many-onward f p q n (link {m = m} step more) = omega (arith, f p m n step, many-onward f m q n more)
 
+pick-onward : {d : ℕ} {r : ℕ → Rel} → ((k : ℕ) → Onward (r k)) → Onward (Pick d r)
+pick-onward f p q n h = f (h .0) p q n (h .2)
+
 then-movable : {r s : Rel} → Onward s → Movable r → Movable s → Movable (Then r s)
 then-movable up f g p q n k h l =
     let m = h .0 in
@@ -49,6 +52,9 @@ many-movable : {r : Rel} → Onward r → Movable r → Movable (Many r)
 many-movable up f p q n k (stay e low) l = stay e (omega arith)
 many-movable up f p q n k (link {m = m} step more) l =
     link (f p m n k step (omega (arith, many-onward up m q n more))) (many-movable up f m q n k more l)
+
+pick-movable : {d : ℕ} {r : ℕ → Rel} → ((k : ℕ) → Movable (r k)) → Movable (Pick d r)
+pick-movable f p q n j h l = (h .0, h .1, f (h .0) p q n j (h .2) l)
 
 -- a walk with no backward sign never goes back
 pub onward : (w : World) (x : Walk) → backward x ≡ false → Onward (Leads w x)
@@ -66,6 +72,7 @@ onward w (alt v x) b =
 onward w (star x) b = many-onward (onward w x b)
 onward w (check t) b = λ p q n h. omega arith
 onward w (conv x) b = absurd (true≢false b)
+onward w (pick v x) b = pick-onward (λ k. onward (bind w v k) x b)
 
 step-movable : (w : World) (a : ℕ) → Movable (Step w a)
 step-movable w a p q n k h l = record { onward = h .onward; within = l; logged = h .logged; able = h .able }
@@ -73,7 +80,7 @@ step-movable w a p q n k h l = record { onward = h .onward; within = l; logged =
 -- and its now may be moved, back to its end and forth as far as one likes
 pub movable : (w : World) (x : Walk) → backward x ≡ false → Movable (Leads w x)
 unfolding Leads backward ownNow
-movable w (act a) b = step-movable w a
+movable w (act a) b = step-movable w (numberIn w a)
 movable w (undo a) b = absurd (true≢false b)
 movable w next b = λ p q n k h l. (h .0, step-movable w (h .0) p q n k (h .1) l)
 movable w prev b = absurd (true≢false b)
@@ -86,6 +93,7 @@ movable w (alt v x) b =
 movable w (star x) b = many-movable (onward w x b) (movable w x b)
 movable w (check t) b = λ p q n k h l. (h .0, omega arith, h .2)
 movable w (conv x) b = absurd (true≢false b)
+movable w (pick v x) b = pick-movable (λ k. movable (bind w v k) x b)
 
 -- shortened: cut at any k that its end does not pass; lengthened: any later now
 pub lengthen : (w : World) (x : Walk) → backward x ≡ false → (p q k n : ℕ) → k ≤ n → Leads w x p q k → Leads w x p q n

@@ -1,7 +1,7 @@
 -- Reading a rule's text back: the walk or the test that opens a list of bytes, and that at most one does. Knows document 01's text of a rule; no code.
 use mathlib.Core.Path.{_≡_, refl, sym, ap, subst, subst₂, _∙_}
 use mathlib.Core.Logic.{_⊎_, inl, inr}
-use mathlib.Core.Bool.{Bool, true, false, cond}
+use mathlib.Core.Bool.{Bool, true, false, cond, true≢false}
 use mathlib.Core.List.{List, [], _∷_, _++_, append-assoc}
 use Prim.Native.Nat.{ℕ, zero, suc, _≤_, _<_}
 use native.Mathlib.Omega.{arith}
@@ -12,6 +12,9 @@ use Rattle.meaning.specs.Limits.{numberLimit}
 use Rattle.meaning.specs.Rule.{
   Walk,
   Test,
+  letter,
+  plain,
+  plus,
   act,
   undo,
   next,
@@ -21,17 +24,20 @@ use Rattle.meaning.specs.Rule.{
   star,
   check,
   conv,
+  pick,
   always,
   fluent,
   neg,
   both,
   diamond,
+  exists,
   walkText,
   testText,
   walkNames,
   testNames,
   upTo,
   other,
+  asWritten,
   Kind,
   testKind,
   walkKind,
@@ -41,7 +47,9 @@ use Rattle.meaning.specs.Rule.{
   ofWalk,
   Fits,
   Opens,
+  variesIn,
 }
+use Rattle.meaning.specs.Refusal.{Allowed, BadRule, BadOpening}
 use Shapes.{
   Got,
   got,
@@ -51,6 +59,7 @@ use Shapes.{
   Shape,
   whole,
   number,
+  variable,
   walk,
   test,
   none,
@@ -62,6 +71,7 @@ use Shapes.{
   Script,
   Sound,
   number-complete,
+  variable-complete,
   Tells,
   by-sound,
 }
@@ -82,23 +92,28 @@ lookUp (row ∷ rows) b = cond (eqb b (row .byte)) (row .shape) (lookUp rows b)
 
 abbrev pub walkTable : List (Sign Walk)
 walkTable =
-    (97 is number (λ a. whole (act a)))
-    ∷ ((114 is number (λ a. whole (undo a)))
+    (97 is number (λ a. whole (act (plain a))))
+    ∷ ((114 is number (λ a. whole (undo (plain a))))
     ∷ ((110 is whole next)
     ∷ ((117 is whole prev)
     ∷ ((59 is walk (λ v. walk (λ w. whole (seq v w))))
     ∷ ((124 is walk (λ v. walk (λ w. whole (alt v w))))
     ∷ ((42 is walk (λ w. whole (star w)))
     ∷ ((63 is test (λ t. whole (check t)))
-    ∷ ((45 is walk (λ w. whole (conv w))) ∷ []))))))))
+    ∷ ((45 is walk (λ w. whole (conv w)))
+    ∷ ((98 is number (λ a. variable (λ v. whole (act (plus a v)))))
+    ∷ ((115 is number (λ a. variable (λ v. whole (undo (plus a v)))))
+    ∷ ((112 is variable (λ v. walk (λ w. whole (pick v w)))) ∷ [])))))))))))
 
 abbrev pub testTable : List (Sign Test)
 testTable =
     (49 is whole always)
-    ∷ ((102 is number (λ i. whole (fluent i)))
+    ∷ ((102 is number (λ i. whole (fluent (plain i))))
     ∷ ((33 is test (λ t. whole (neg t)))
     ∷ ((38 is test (λ t. test (λ u. whole (both t u))))
-    ∷ ((60 is walk (λ w. test (λ t. whole (diamond w t)))) ∷ []))))
+    ∷ ((60 is walk (λ w. test (λ t. whole (diamond w t))))
+    ∷ ((103 is number (λ i. variable (λ v. whole (fluent (plus i v)))))
+    ∷ ((101 is variable (λ v. test (λ t. whole (exists v t)))) ∷ []))))))
 
 abbrev pub walkSign : ℕ → Shape Walk
 walkSign b = lookUp walkTable b
@@ -205,10 +220,10 @@ test-step b l = each-step (testSign b) l
 
 -- What is read is what is written: no reader finds a rule that is not spelled there, or one with a number of more than two digits.
 abbrev pub ShortWalk : Walk → Type 0
-ShortWalk w = (walkNames upTo other w ≤ numberLimit) × (walkNames other upTo w ≤ numberLimit)
+ShortWalk w = (walkNames (upTo asWritten) other w ≤ numberLimit) × (walkNames other (upTo asWritten) w ≤ numberLimit)
 
 abbrev pub ShortTest : Test → Type 0
-ShortTest t = (testNames upTo other t ≤ numberLimit) × (testNames other upTo t ≤ numberLimit)
+ShortTest t = (testNames (upTo asWritten) other t ≤ numberLimit) × (testNames other (upTo asWritten) t ≤ numberLimit)
 
 abbrev walkScript : Script Walk
 walkScript = record { spell = walkText; short = ShortWalk }
@@ -241,7 +256,19 @@ walks-tell = (
         (refl, (omega arith, omega arith)),
         (
           λ v p w q. (refl, (omega arith, omega arith)),
-          (λ v p w q. (refl, (omega arith, omega arith)), (λ w p. (refl, p), (λ t p. (refl, p), (λ w p. (refl, p), tt)))),
+          (
+            λ v p w q. (refl, (omega arith, omega arith)),
+            (
+              λ w p. (refl, p),
+              (
+                λ t p. (refl, p),
+                (
+                  λ w p. (refl, p),
+                  (λ a h v. (refl, (omega arith, omega arith)), (λ a h v. (refl, (omega arith, omega arith)), (λ v w p. (refl, p), tt))),
+                ),
+              ),
+            ),
+          ),
         ),
       ),
     ),
@@ -254,7 +281,13 @@ tests-tell = (
   (refl, (omega arith, omega arith)),
   (
     λ a h. (refl, (omega arith, omega arith)),
-    (λ t p. (refl, p), (λ t p u q. (refl, (omega arith, omega arith)), (λ w p t q. (refl, (omega arith, omega arith)), tt))),
+    (
+      λ t p. (refl, p),
+      (
+        λ t p u q. (refl, (omega arith, omega arith)),
+        (λ w p t q. (refl, (omega arith, omega arith)), (λ a h v. (refl, (omega arith, omega arith)), (λ v t p. (refl, p), tt))),
+      ),
+    ),
   ),
 )
 
@@ -292,8 +325,10 @@ mutual
   unfolding walkText walkNames
 
   pub walk-complete : (w : Walk) (rest : List ℕ) → ShortWalk w → readWalk (walkText w ++ rest) ≡ got w rest
-  walk-complete (act a) rest h = walk-step _ _ ∙ simp (number-complete a rest (omega arith))
-  walk-complete (undo a) rest h = walk-step _ _ ∙ simp (number-complete a rest (omega arith))
+  walk-complete (act (plain a)) rest h = walk-step _ _ ∙ simp (number-complete a rest (omega arith))
+  walk-complete (act (plus a v)) rest h = walk-step _ _ ∙ simp (number-complete a (letter v ∷ rest) (omega arith), variable-complete v rest)
+  walk-complete (undo (plain a)) rest h = walk-step _ _ ∙ simp (number-complete a rest (omega arith))
+  walk-complete (undo (plus a v)) rest h = walk-step _ _ ∙ simp (number-complete a (letter v ∷ rest) (omega arith), variable-complete v rest)
   walk-complete next rest h = walk-step _ _
   walk-complete prev rest h = walk-step _ _
   walk-complete (seq v w) rest h =
@@ -303,15 +338,18 @@ mutual
   walk-complete (star w) rest h = walk-step _ _ ∙ simp (walk-complete w rest h)
   walk-complete (check t) rest h = walk-step _ _ ∙ simp (test-complete t rest h)
   walk-complete (conv w) rest h = walk-step _ _ ∙ simp (walk-complete w rest h)
+  walk-complete (pick v w) rest h = walk-step _ _ ∙ simp (variable-complete v (walkText w ++ rest), walk-complete w rest h)
 
   pub test-complete : (t : Test) (rest : List ℕ) → ShortTest t → readTest (testText t ++ rest) ≡ got t rest
   test-complete always rest h = test-step _ _
-  test-complete (fluent i) rest h = test-step _ _ ∙ simp (number-complete i rest (omega arith))
+  test-complete (fluent (plain i)) rest h = test-step _ _ ∙ simp (number-complete i rest (omega arith))
+  test-complete (fluent (plus i v)) rest h = test-step _ _ ∙ simp (number-complete i (letter v ∷ rest) (omega arith), variable-complete v rest)
   test-complete (neg t) rest h = test-step _ _ ∙ simp (test-complete t rest h)
   test-complete (both t u) rest h =
       test-step _ _ ∙ two-parts readTest readTest both (testText t) (testText u) rest t u (test-complete t (testText u ++ rest) (omega arith, omega arith)) (test-complete u rest (omega arith, omega arith))
   test-complete (diamond w t) rest h =
       test-step _ _ ∙ two-parts readWalk readTest diamond (walkText w) (testText t) rest w t (walk-complete w (testText t ++ rest) (omega arith, omega arith)) (test-complete t rest (omega arith, omega arith))
+  test-complete (exists v t) rest h = test-step _ _ ∙ simp (variable-complete v (testText t ++ rest), test-complete t rest h)
 
 -- A rule of a kind. "A rule is used as a *test*, as a *walk* .. or as a *job*."
 abbrev pub readRule : Kind → Reader Rule
@@ -376,3 +414,22 @@ opens? kind bytes = go (readRule kind bytes) refl
     go : (g : Got Rule) → readRule kind bytes ≡ g → ((r : Rule) × (rest : List ℕ) × Opens kind bytes r rest) ⊎ ((r : Rule) (rest : List ℕ) → Opens kind bytes r rest → ⊥)
     go (got r rest) e = inl (r, rest, opens-of-read kind bytes r rest e)
     go bad e = inr (none-of-bad kind bytes e)
+
+-- "6 for the new signs in sheet=1, or domain 0 in a call": bytes that open with a rule of these signs open with no rule that is allowed; and what 6 leaves
+pub barred : {domain : ℕ} {kind : Kind} {bytes : List ℕ} {r : Rule} {rest : List ℕ} → Opens kind bytes r rest → domain ≡ 0 → variesIn r ≡ true
+    → (r′ : Rule) (rest′ : List ℕ) → Opens kind bytes r′ rest′ → Allowed domain r′ → ⊥
+barred o empty varies r′ rest′ o′ allowed = true≢false (sym varies ∙ ap variesIn (unique-reading o o′ .0) ∙ allowed empty)
+
+pub allowed-whole : {domain : ℕ} {kind : Kind} {bytes : List ℕ} (r : Rule) → Opens kind bytes r [] → (BadRule domain kind bytes → ⊥) → Allowed domain r
+allowed-whole {domain} {kind} {bytes} r o fine empty = go (variesIn r) refl
+  where
+    go : (b : Bool) → variesIn r ≡ b → variesIn r ≡ false
+    go true e = absurd (fine (inr (inr (λ r′ o′. barred o empty e r′ [] o′))))
+    go false e = e
+
+pub allowed-opening : {domain : ℕ} {kind : Kind} {bytes : List ℕ} (r : Rule) (rest : List ℕ) → Opens kind bytes r rest → (BadOpening domain kind bytes → ⊥) → Allowed domain r
+allowed-opening {domain} {kind} {bytes} r rest o fine empty = go (variesIn r) refl
+  where
+    go : (b : Bool) → variesIn r ≡ b → variesIn r ≡ false
+    go true e = absurd (fine (inr (inr (barred o empty e))))
+    go false e = e

@@ -14,8 +14,8 @@ use Rattle.laws.specs.Bit.{on}
 use Rattle.laws.proofs.Truth.{off-on}
 use Rattle.laws.proofs.Gather.{on-gather}
 use Rattle.meaning.specs.Limits.{fluentLimit}
-use Rattle.meaning.specs.Theory.{Masks, Possible, World, after, relog, run, stateAt, stepAt}
-use Rattle.meaning.specs.Rule.{Walk, Test, act, undo, next, prev, seq, alt, star, check, conv, always, fluent, neg, both, diamond, walkNames, testNames}
+use Rattle.meaning.specs.Theory.{Masks, Possible, World, bind, after, relog, run, stateAt, stepAt}
+use Rattle.meaning.specs.Rule.{Variable, Name, plain, plus, Walk, Test, act, undo, next, prev, seq, alt, star, check, conv, pick, always, fluent, neg, both, diamond, exists, walkNames, testNames}
 use Rattle.meaning.specs.Leads.{Leads, Holds, Step, AnyStep, ownNow}
 use Rattle.meaning.specs.Finish.{Able, Smaller, First}
 use Rattle.meaning.specs.StandIn.{among, NamesNone, Idle, Alike, StandsIn}
@@ -28,22 +28,29 @@ abbrev Any : ℕ → Type 0
 Any n = Unit {0}
 
 -- What a walk that the two functions give 0 can tell of a world, another world has as well: the steps of its actions, that there is a step, its fluents.
-record Told (f g : ℕ → ℕ) (w w′ : World) : Type 0 where
-  step : (a : ℕ) → f a ≡ 0 → Kept Any (Step w a) (Step w′ a)
+record Told (f g : Name → ℕ) (w w′ : World) : Type 0 where
+  values : w .domain ≡ w′ .domain
+  step : (a : ℕ) → f (plain a) ≡ 0 → Kept Any (Step w a) (Step w′ a)
   any : Kept Any (AnyStep w) (AnyStep w′)
-  shown : (i : ℕ) → g i ≡ 0 → (t : ℕ) → on (stateAt w t) i ≡ on (stateAt w′ t) i
+  shown : (i : ℕ) → g (plain i) ≡ 0 → (t : ℕ) → on (stateAt w t) i ≡ on (stateAt w′ t) i
+
+-- the values of variables have no part in it
+told-bound : {f g : Name → ℕ} {w w′ : World} (v : Variable) (k : ℕ) → Told f g w w′ → Told f g (bind w v k) (bind w′ v k)
+told-bound v k u = record { values = u .values; step = u .step; any = u .any; shown = u .shown }
 
 -- neither of two parts names a thing
 apart : (m n : ℕ) → max m n ≡ 0 → (m ≡ 0) × (n ≡ 0)
 apart m n e = (omega arith, omega arith)
 
-module _ (f g : ℕ → ℕ) where
+module _ (f g : Name → ℕ) (no-act : (n : ℕ) (v : Variable) → f (plus n v) ≡ 0 → ⊥) (no-fluent : (n : ℕ) (v : Variable) → g (plus n v) ≡ 0 → ⊥) where
   mutual
     unfolding Leads walkNames ownNow
 
     leads-told : (w w′ : World) (x : Walk) → walkNames f g x ≡ 0 → Told f g w w′ → Told f g w′ w → Kept Any (Leads w x) (Leads w′ x)
-    leads-told w w′ (act a) z u v = u .step a z
-    leads-told w w′ (undo a) z u v = λ p q. u .step a z q p
+    leads-told w w′ (act (plain a)) z u v = u .step a z
+    leads-told w w′ (act (plus n y)) z u v = absurd (no-act n y z)
+    leads-told w w′ (undo (plain a)) z u v = λ p q. u .step a z q p
+    leads-told w w′ (undo (plus n y)) z u v = absurd (no-act n y z)
     leads-told w w′ next z u v = u .any
     leads-told w w′ prev z u v = λ p q. u .any q p
     leads-told w w′ (seq x y) z u v =
@@ -55,10 +62,13 @@ module _ (f g : ℕ → ℕ) where
     leads-told w w′ (star x) z u v = many-kept (leads-told w w′ x z u v)
     leads-told w w′ (check t) z u v = λ p q n e h. (h .0, h .1, holds-told w w′ t z u v p p e (omega arith) (h .2))
     leads-told w w′ (conv x) z u v = turned-kept (back-exchanged w x) (back-exchanged w′ x) (leads-told w w′ x z u v)
+    leads-told w w′ (pick y x) z u v = λ p q n e h.
+        (h .0, rw (← u .values) (h .1), leads-told (bind w y (h .0)) (bind w′ y (h .0)) x z (told-bound y (h .0) u) (told-bound y (h .0) v) p q n e (h .2))
 
     holds-told : (w w′ : World) (x : Test) → testNames f g x ≡ 0 → Told f g w w′ → Told f g w′ w → Stays Any (Holds w x) (Holds w′ x)
     holds-told w w′ always z u v = λ t n e l h. h
-    holds-told w w′ (fluent i) z u v = λ t n e l h. sym (u .shown i z t) ∙ h
+    holds-told w w′ (fluent (plain i)) z u v = λ t n e l h. sym (u .shown i z t) ∙ h
+    holds-told w w′ (fluent (plus n y)) z u v = absurd (no-fluent n y z)
     holds-told w w′ (neg x) z u v = λ t n e l no-x h. no-x (holds-told w′ w x z v u t n e l h)
     holds-told w w′ (both x y) z u v =
         let d = apart (testNames f g x) (testNames f g y) z in
@@ -66,6 +76,8 @@ module _ (f g : ℕ → ℕ) where
     holds-told w w′ (diamond x y) z u v =
         let d = apart (walkNames f g x) (testNames f g y) z in
         some-stays (leads-within w x) (leads-told w w′ x (d .0) u v) (holds-told w w′ y (d .1) u v)
+    holds-told w w′ (exists y x) z u v = λ t n e l h.
+        (h .0, rw (← u .values) (h .1), holds-told (bind w y (h .0)) (bind w′ y (h .0)) x z (told-bound y (h .0) u) (told-bound y (h .0) v) t n e l (h .2))
 
 -- what an action does to a fluent, by its bits
 effect : (p p′ d d′ s s′ : Bool) → p ≡ p′ → (p ≡ false → d ≡ d′) → s ≡ s′ → (p || (s && not d)) ≡ (p′ || (s′ && not d′))
@@ -144,6 +156,7 @@ module _ (w : World) (unnamed idle : ℕ) (quiet : Idle (w .masks) idle) where
   told : (a b : ℕ) → on unnamed a ≡ true → Alike idle (w .masks a) (w .masks b) → (log rest : List ℕ)
       → Told (among unnamed) (among idle) (With log a rest) (With log b rest)
   told a b free alike log rest = record {
+    values = refl;
     step = λ c z p q n u h. record {
       onward = h .onward;
       within = h .within;
@@ -173,7 +186,7 @@ module _ (w : World) (unnamed idle : ℕ) (quiet : Idle (w .masks) idle) where
       → Leads (With log b rest) x p q n → Leads (With log a rest) x p q n
   stand-in-leads x none a b h log rest p q n =
       let back = alike-turned idle (w .masks a) (w .masks b) (h .alike) in
-      leads-told (among unnamed) (among idle) (With log b rest) (With log a rest) x none
+      leads-told (among unnamed) (among idle) (λ n v e. omega arith) (λ n v e. omega arith) (With log b rest) (With log a rest) x none
       (told b a (h .spared) back log rest) (told a b (h .apart) (h .alike) log rest) p q n tt
 
   -- and every action of the rest is possible where it stands

@@ -1,12 +1,12 @@
 -- Document 01, "Examples on that theory": every row marked P, in the document's order, and what each says about the meaning. A case gives its rule
--- as the document writes it; what it says is said of the rule that this text spells.
+-- as the document writes it; what it says is said of the rule that this text spells. Then cases of document 02, Q-2, on the same theory and logs.
 use mathlib.Core.Path.{_≡_}
 use mathlib.Core.List.{List, [], _∷_}
 use Prim.Native.Nat.{ℕ}
 use Prim.Native.String.{String}
 use lib.ListN.{getD}
 use Rattle.laws.specs.Text.{bytes}
-use Rattle.meaning.specs.Theory.{Masks, World, masksOf}
+use Rattle.meaning.specs.Theory.{Masks, World, masksOf, noValues}
 use Rattle.meaning.specs.Rule.{Walk, Test, Rule, Kind, testKind, walkKind, jobKind, ofTest, ofWalk, Opens, text}
 use Rattle.meaning.specs.Leads.{Holds}
 use Rattle.meaning.specs.Reach.{ReachedAs}
@@ -19,8 +19,18 @@ use Rattle.meaning.specs.Finish.{First, None}
 abbrev pub actions : List Masks
 actions = masksOf 0 0 1 0 ∷ masksOf 1 0 2 0 ∷ masksOf 0 0 0 3 ∷ []
 
-abbrev pub jobWith : List ℕ → World
-jobWith log = record { fluents = 2; actions = 3; masks = λ a. getD actions a (masksOf 0 0 0 0); start = 0; log = log }
+-- so many values has a variable, 0 on a sheet without variables
+abbrev pub jobWith : ℕ → List ℕ → World
+jobWith domain log =
+    record {
+      fluents = 2;
+      actions = 3;
+      masks = λ a. getD actions a (masksOf 0 0 0 0);
+      start = 0;
+      domain = domain;
+      values = noValues;
+      log = log;
+    }
 
 -- "L is the log 00 01 02 00 (states 0, 1, 3, 0, 1), M is 01 00 (states 0, 2, 3), E is empty."
 abbrev pub L : List ℕ
@@ -83,6 +93,34 @@ cases =
     ∷ finish E ";a00a01" 1 (refusal 11)
     ∷ []
 
+-- Q-2 with two values, and with three
+abbrev pub twoValues : List Case
+twoValues =
+    reach L "pvb01v" 1 4 4 1 2
+    ∷ reach L "pv;b00vb00v" 0 4 0 0 64
+    ∷ reach L ";pvb00vpvb00v" 0 4 4 1 2
+    ∷ reach L "pvpw;b00vb00w" 0 4 4 1 2
+    ∷ verdict L "evg00v" 0 0 no
+    ∷ verdict L "evg00v" 1 1 yes
+    ∷ verdict L "evg00v" 3 3 no
+    ∷ form walkKind "-pvb00v" "pvs00v"
+    ∷ form walkKind "-pv;b00va01" "pv;r01s00v"
+    ∷ form walkKind "-pvpw;b00vb00w" "pvpw;s00ws00v"
+    ∷ form walkKind "-pv?<-b00v1" "pv?<s00v1"
+    ∷ finish E "pvb01v" 6 (sequence (2 ∷ []))
+    ∷ []
+
+abbrev pub threeValues : List Case
+threeValues =
+    reach L "pvb00v" 0 4 2 1 1
+    ∷ reach L "pvb00v" 1 4 4 1 2
+    ∷ reach L "*pvb00v" 0 4 31 5 0
+    ∷ reach L "pv*b00v" 0 4 3 2 0
+    ∷ reach L "pvpv;b00vb00v" 0 4 0 0 64
+    ∷ finish E "pvb00v" 1 (sequence (0 ∷ []))
+    ∷ finish E "pv?<s00v1" 1 (refusal 11)
+    ∷ []
+
 -- What a case says
 
 -- the bytes are one rule of this kind and no other, and this is said of it
@@ -109,13 +147,14 @@ abbrev pub Finishing : World → ℕ → CaseEnding → Walk → Type 0
 Finishing w more (sequence ending) job = First w job more ending
 Finishing w more (refusal number) job = (number ≡ 11) × None w job more
 
-abbrev pub CaseSays : Case → Type 0
-CaseSays (reach log walk t n set count earliest) =
-    SpelledAs walkKind (bytes walk) (OfWalk (λ x. ReachedAs (jobWith log) x t n set count earliest))
-CaseSays (verdict log test t n answer) = SpelledAs testKind (bytes test) (OfTest (λ x. IsSo answer (Holds (jobWith log) x t n)))
-CaseSays (form kind rule normal) = SpelledAs kind (bytes rule) (λ x. text (normalRule x) ≡ bytes normal)
-CaseSays (finish log job more ending) = SpelledAs jobKind (bytes job) (OfWalk (Finishing (jobWith log) more ending))
+-- with so many values
+abbrev pub CaseSays : ℕ → Case → Type 0
+CaseSays domain (reach log walk t n set count earliest) =
+    SpelledAs walkKind (bytes walk) (OfWalk (λ x. ReachedAs (jobWith domain log) x t n set count earliest))
+CaseSays domain (verdict log test t n answer) = SpelledAs testKind (bytes test) (OfTest (λ x. IsSo answer (Holds (jobWith domain log) x t n)))
+CaseSays domain (form kind rule normal) = SpelledAs kind (bytes rule) (λ x. text (normalRule x) ≡ bytes normal)
+CaseSays domain (finish log job more ending) = SpelledAs jobKind (bytes job) (OfWalk (Finishing (jobWith domain log) more ending))
 
-abbrev pub AllSay : List Case → Type 0
-AllSay [] = Unit {0}
-AllSay (c ∷ rest) = CaseSays c × AllSay rest
+abbrev pub AllSay : ℕ → List Case → Type 0
+AllSay domain [] = Unit {0}
+AllSay domain (c ∷ rest) = CaseSays domain c × AllSay domain rest

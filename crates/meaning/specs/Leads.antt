@@ -1,13 +1,13 @@
--- Document 01, the two tables: where a walk leads, and when a test is true. The world is an explicit argument of each definition, so that a rule may
--- be read in a changed world.
+-- Document 01, the two tables: where a walk leads, and when a test is true; document 02, Q-2: for some value. The world is an explicit argument of each
+-- definition, so that a rule may be read in a changed world.
 use mathlib.Core.Path.{_≡_}
 use mathlib.Core.Logic.{_⊎_}
 use mathlib.Core.Bool.{true}
 use mathlib.Core.Option.{Option, some}
-use Prim.Native.Nat.{ℕ, _+_, _≤_}
+use Prim.Native.Nat.{ℕ, _+_, _≤_, _<_}
 use Rattle.laws.specs.Bit.{on}
-use Rattle.meaning.specs.Theory.{Masks, Possible, World, stateAt, stepAt}
-use Rattle.meaning.specs.Rule.{Walk, Test, act, undo, next, prev, seq, alt, star, check, conv, always, fluent, neg, both, diamond}
+use Rattle.meaning.specs.Theory.{Masks, Possible, World, bind, numberIn, stateAt, stepAt}
+use Rattle.meaning.specs.Rule.{Walk, Test, act, undo, next, prev, seq, alt, star, check, conv, pick, always, fluent, neg, both, diamond, exists}
 
 -- "means, from p to q, with now = n"
 abbrev pub Rel : Type 1
@@ -58,6 +58,10 @@ ownNow w p n = p
 abbrev pub Here : World → Truth → Rel
 Here w x p q n = (q ≡ p) × (p ≤ n) × x p (ownNow w p n)
 
+-- `pvW`: "W for some value of v", where "Values are 0 to NN-1": what W relates with each value, and how many there are
+abbrev pub Pick : ℕ → (ℕ → Rel) → Rel
+Pick domain r p q n = (k : ℕ) × (k < domain) × r k p q n
+
 -- `1`: "always"
 abbrev pub Always : Truth
 Always t n = Unit {0}
@@ -78,12 +82,16 @@ Both x y t n = x t n × y t n
 abbrev pub Some : Rel → Truth → Truth
 Some r x t n = (q : ℕ) × r t q n × x q n
 
+-- `evT`: "T for some value"
+abbrev pub Exists : ℕ → (ℕ → Truth) → Truth
+Exists domain x t n = (k : ℕ) × (k < domain) × x k t n
+
 -- Leads w W p q n: W leads from p to q with now = n. Back is the converse "by the paper's inward rules", sign by sign, and not "W from q to p".
 -- Holds w T t n: T is true with then = t, now = n.
 unfoldable mutual
   pub Leads : World → Walk → Rel
-  Leads w (act a) = Step w a
-  Leads w (undo a) = Turned (Step w a)
+  Leads w (act a) = Step w (numberIn w a)
+  Leads w (undo a) = Turned (Step w (numberIn w a))
   Leads w next = AnyStep w
   Leads w prev = Turned (AnyStep w)
   Leads w (seq v x) = Then (Leads w v) (Leads w x)
@@ -91,10 +99,11 @@ unfoldable mutual
   Leads w (star x) = Many (Leads w x)
   Leads w (check t) = Here w (Holds w t)
   Leads w (conv x) = Back w x
+  Leads w (pick v x) = Pick (w .domain) (λ k. Leads (bind w v k) x)
 
   pub Back : World → Walk → Rel
-  Back w (act a) = Turned (Step w a)
-  Back w (undo a) = Step w a
+  Back w (act a) = Turned (Step w (numberIn w a))
+  Back w (undo a) = Step w (numberIn w a)
   Back w next = Turned (AnyStep w)
   Back w prev = AnyStep w
   Back w (seq v x) = Then (Back w x) (Back w v)
@@ -102,10 +111,12 @@ unfoldable mutual
   Back w (star x) = Many (Back w x)
   Back w (check t) = Here w (Holds w t)
   Back w (conv x) = Leads w x
+  Back w (pick v x) = Pick (w .domain) (λ k. Back (bind w v k) x)
 
   pub Holds : World → Test → Truth
   Holds w always = Always
-  Holds w (fluent i) = On w i
+  Holds w (fluent i) = On w (numberIn w i)
   Holds w (neg x) = Not (Holds w x)
   Holds w (both x y) = Both (Holds w x) (Holds w y)
   Holds w (diamond v x) = Some (Leads w v) (Holds w x)
+  Holds w (exists v x) = Exists (w .domain) (λ k. Holds (bind w v k) x)

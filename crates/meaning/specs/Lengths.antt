@@ -9,7 +9,7 @@ use lib.ListN.{length, getD}
 use Rattle.laws.specs.Bit.{on}
 use Rattle.meaning.specs.Limits.{fluentLimit, moreLimit}
 use Rattle.meaning.specs.Theory.{Masks, World, stateAt}
-use Rattle.meaning.specs.Rule.{Walk, Test, act, undo, next, prev, seq, alt, star, check, conv, walkText}
+use Rattle.meaning.specs.Rule.{Walk, Test, act, undo, next, prev, seq, alt, star, check, conv, pick, walkText}
 use Rattle.meaning.specs.Leads.{Holds}
 
 -- In this state only fluents of `ons` are on, and only fluents of `offs` are off.
@@ -48,6 +48,7 @@ Measured ons offs follow at (star x) behind before =
     (rounds : ℕ) × Inside behind rounds × Measured ons offs follow (at + 1) x rounds rounds × Inside rounds before
 Measured ons offs follow at (check t) behind before = Never ons offs t ⊎ Inside behind before
 Measured ons offs follow at (conv x) behind before = Unit {0}
+Measured ons offs follow at (pick v x) behind before = Measured ons offs follow (at + 2) x behind before
 
 -- each place of the table has what it had
 abbrev pub Grown : List ℕ → List ℕ → Type 0

@@ -1,6 +1,7 @@
 pub mod Limits
-pub mod Theory
 pub mod Rule
+pub mod Theory
+pub mod Written
 pub mod Leads
 pub mod Reach
 pub mod Normal

@@ -25,6 +25,10 @@ textLimit = 255
 abbrev pub depthLimit : ℕ
 depthLimit = 24
 
+-- "`domain=NN` (01 to 16)": so many values a variable can have
+abbrev pub domainLimit : ℕ
+domainLimit = 16
+
 -- "a bound *more* of 0 to 6"
 abbrev pub moreLimit : ℕ
 moreLimit = 6

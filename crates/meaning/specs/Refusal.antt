@@ -1,4 +1,4 @@
--- Document 01, "Numbers of refusal": when each number applies, which one is given, and the values that go with it.
+-- Document 01, "Numbers of refusal", and what document 02, Q-2 adds: when each number applies, which one is given, and the values that go with it.
 use mathlib.Core.Path.{_≡_}
 use mathlib.Core.Logic.{_⊎_}
 use mathlib.Core.Bool.{Bool, true, false, cond}
@@ -8,9 +8,9 @@ use Prim.Native.Nat.{ℕ, _*_, _≤_, _<_}
 use lib.Dec.{leb}
 use lib.ListN.{length, getD}
 use Rattle.laws.specs.Bit.{on}
-use Rattle.meaning.specs.Limits.{fluentLimit, actionLimit, places, textLimit, depthLimit, moreLimit}
+use Rattle.meaning.specs.Limits.{fluentLimit, actionLimit, places, textLimit, depthLimit, domainLimit, moreLimit}
 use Rattle.meaning.specs.Theory.{stride}
-use Rattle.meaning.specs.Rule.{Kind, jobKind, Rule, Opens, actionsIn, fluentsIn, depth, backwardIn}
+use Rattle.meaning.specs.Rule.{Kind, jobKind, Rule, Variable, Opens, actionsIn, fluentsIn, depth, backwardIn, freeIn, variesIn}
 
 -- One row of the table for one call: its number is "given exactly when" this holds. A call has a row for each input that it has.
 pub record Row : Type 1 where
@@ -62,6 +62,10 @@ BadCounts fluents actions = (fluentLimit < fluents) ⊎ ((actions < 1) ⊎ (acti
 abbrev pub BadTable : ℕ → List ℕ → Type 0
 BadTable actions masks = length masks ≡ stride * actions → ⊥
 
+-- 3 "for a bad domain": over 16 values; 0 is a call without variables
+abbrev pub BadDomain : ℕ → Type 0
+BadDomain domain = domainLimit < domain
+
 abbrev pub BadMore : ℕ → Type 0
 BadMore more = moreLimit < more
 
@@ -88,16 +92,22 @@ pub record UnknownStep (actions : ℕ) (log : List ℕ) : Type 0 where
 abbrev pub BadLog : ℕ → ℕ → List ℕ → Type 0
 BadLog limit actions log = (limit < length log) ⊎ UnknownStep actions log
 
+-- "6 for the new signs in sheet=1, or domain 0 in a call": a rule has none of them where there are no values
+abbrev pub Allowed : ℕ → Rule → Type 0
+Allowed domain rule = domain ≡ 0 → variesIn rule ≡ false
+
 -- 6: "a rule is empty, over 255 bytes, or not exactly one rule of its kind"; in reading one rule, "opens with no rule of that kind"
-abbrev pub BadRule : Kind → List ℕ → Type 0
-BadRule kind bytes = (bytes ≡ []) ⊎ ((textLimit < length bytes) ⊎ ((rule : Rule) → Opens kind bytes rule [] → ⊥))
+abbrev pub BadRule : ℕ → Kind → List ℕ → Type 0
+BadRule domain kind bytes =
+    (bytes ≡ []) ⊎ ((textLimit < length bytes) ⊎ ((rule : Rule) → Opens kind bytes rule [] → Allowed domain rule → ⊥))
 
-abbrev pub BadOpening : Kind → List ℕ → Type 0
-BadOpening kind bytes = (bytes ≡ []) ⊎ ((textLimit < length bytes) ⊎ ((rule : Rule) (rest : List ℕ) → Opens kind bytes rule rest → ⊥))
+abbrev pub BadOpening : ℕ → Kind → List ℕ → Type 0
+BadOpening domain kind bytes =
+    (bytes ≡ []) ⊎ ((textLimit < length bytes) ⊎ ((rule : Rule) (rest : List ℕ) → Opens kind bytes rule rest → Allowed domain rule → ⊥))
 
--- 7: "a rule names an action or fluent the theory lacks"
-abbrev pub BadNames : ℕ → ℕ → Rule → Type 0
-BadNames fluents actions rule = (actions < actionsIn rule) ⊎ (fluents < fluentsIn rule)
+-- 7: "a rule names an action or fluent the theory lacks"; "a number plus the largest value is too big"
+abbrev pub BadNames : ℕ → ℕ → ℕ → Rule → Type 0
+BadNames domain fluents actions rule = (actions < actionsIn domain rule) ⊎ (fluents < fluentsIn domain rule)
 
 -- 8: "depth over 24"
 abbrev pub TooDeep : Rule → Type 0
@@ -106,6 +116,11 @@ TooDeep rule = depthLimit < depth rule
 -- 9: "a backward sign in a job outside every `<` walk"
 abbrev pub BadJob : Kind → Rule → Type 0
 BadJob kind rule = (kind ≡ jobKind) × (backwardIn rule ≡ true)
+
+-- 13, "between 9 and 10": "an unbound variable"
+pub record Unbound (rule : Rule) : Type 0 where
+  pub variable : Variable
+  pub free : freeIn variable rule ≡ true
 
 -- 10: "then > now, or now (or the position asked) > the log's length"
 abbrev pub BadTimes : ℕ → ℕ → List ℕ → Type 0

@@ -5,11 +5,12 @@ use Prim.Native.Nat.{ℕ, _<_}
 use Rattle.laws.specs.Bit.{on}
 use Rattle.meaning.specs.Limits.{fluentLimit}
 use Rattle.meaning.specs.Theory.{Masks}
-use Rattle.meaning.specs.Rule.{Walk, walkNames}
+use Rattle.meaning.specs.Rule.{Name, plain, plus, Walk, walkNames}
 
--- 1 for a number that the mask holds, 0 for any other
-abbrev pub among : ℕ → ℕ → ℕ
-among mask i = cond (on mask i) 1 0
+-- 1 for a number that the mask holds, 0 for any other; a sum may stand for any number
+abbrev pub among : ℕ → Name → ℕ
+among mask (plain i) = cond (on mask i) 1 0
+among mask (plus i v) = 1
 
 -- the walk names no action of the one mask and no fluent of the other, not in its tests either
 abbrev pub NamesNone : ℕ → ℕ → Walk → Type 0

@@ -5,17 +5,17 @@ use mathlib.Core.List.{List, _∷_, _++_}
 use Prim.Native.Nat.{ℕ, _+_}
 use lib.ListN.{length, getD, set}
 use Rattle.meaning.specs.Rule.{Walk, ofWalk, walkText}
-use Rattle.rule.specs.declared.signs.Sign.the-variants.{Step, NamedStep, OverWalk, OverTest, TwoWalks}
+use Rattle.rule.specs.declared.signs.Sign.the-variants.{Step, NamedStep, OverWalk, OverTest, TwoWalks, SumStep, SomeWalk}
 use Rattle.rule.specs.Signs.{signOf}
 use Rattle.rule.specs.Standing.{Stands, Ends}
-use Rattle.rule.proofs.SignTable.{SignIs, sign-is, act-sign, undo-sign, next-sign, prev-sign, seq-sign, alt-sign, star-sign, conv-sign, check-sign}
-use Rattle.rule.proofs.Spread.{Spread, spread, act-at, undo-at, next-at, prev-at, seq-at, alt-at, star-at, check-at, conv-at}
+use Rattle.rule.proofs.SignTable.{SignIs, sign-is, act-sign, undo-sign, next-sign, prev-sign, seq-sign, alt-sign, star-sign, conv-sign, check-sign, sum-act-sign, sum-undo-sign, pick-sign}
+use Rattle.rule.proofs.Spread.{Spread, spread, act-at, undo-at, next-at, prev-at, seq-at, alt-at, star-at, check-at, conv-at, sum-act-at, sum-undo-at, pick-at}
 use Rattle.normal.specs.declared.rewrite.Parts.{Parts}
-use Rattle.normal.specs.Place.{facing, Written, WalkWritten, TestWritten, NumberWritten}
+use Rattle.normal.specs.Place.{facing, Written, WalkWritten, TestWritten, NumberWritten, LetterWritten}
 use Rattle.normal.specs.Sign.{facingSign, swaps, inOrder}
-use Rattle.normal.proofs.Signs.{act-facing, undo-facing, next-facing, prev-facing, seq-ordered, seq-exchanged, alt-facing, star-facing, check-facing, conv-facing}
+use Rattle.normal.proofs.Signs.{act-facing, undo-facing, next-facing, prev-facing, seq-ordered, seq-exchanged, alt-facing, star-facing, check-facing, conv-facing, sum-act-facing, sum-undo-facing, pick-facing}
 use Rattle.normal.proofs.Standing.{behind}
-use Rattle.normal.proofs.Writing.{leaf, named, one, two, gone}
+use Rattle.normal.proofs.Writing.{leaf, named, sum, lettered, one, two, gone}
 
 -- `-W`
 pub conv-written : {bytes : List ℕ} {at to to₁ : ℕ} {before after : List ℕ} → getD bytes at 0 ≡ 45 → (back : Bool)
@@ -68,6 +68,23 @@ module _ {bytes : List ℕ} {at to : ℕ} {before mid : List ℕ} (back : Bool) 
       where
         go : {b : ℕ} {x : Walk} → SignIs b OverTest → getD bytes at 0 ≡ b → Spread bytes at b (ofWalk x) → Done to₁ after x
         go check-sign e (check-at t k) = one (known e) (h .each t k) (check-facing back t)
+
+    -- `bNNv`, `sNNv`
+    pub sum-written : {to₂ : ℕ} {last : List ℕ} → SumStep ≡ signOf (getD bytes at 0) → NumberWritten bytes (at + 1) (to + 1) mid to₁ after → LetterWritten bytes (at + 3) to₁ after to₂ last
+        → WalkWritten bytes back at to before to₂ last
+    sum-written {to₂} {last} s h i = record { each = λ x k. go (sign-is s) refl (spread k _ refl) }
+      where
+        go : {b : ℕ} {x : Walk} → SignIs b SumStep → getD bytes at 0 ≡ b → Spread bytes at b (ofWalk x) → Done to₂ last x
+        go sum-act-sign e (sum-act-at a v d l) = sum (known e) a v d l h i (sum-act-facing back a v)
+        go sum-undo-sign e (sum-undo-at a v d l) = sum (known e) a v d l h i (sum-undo-facing back a v)
+
+    -- `pvW`
+    pub pick-written : {to₂ : ℕ} {last : List ℕ} → SomeWalk ≡ signOf (getD bytes at 0) → LetterWritten bytes (at + 1) (to + 1) mid to₁ after → WalkWritten bytes back (at + 2) to₁ after to₂ last
+        → WalkWritten bytes back at to before to₂ last
+    pick-written {to₂} {last} s h i = record { each = λ x k. go (sign-is s) refl (spread k _ refl) }
+      where
+        go : {b : ℕ} {x : Walk} → SignIs b SomeWalk → getD bytes at 0 ≡ b → Spread bytes at b (ofWalk x) → Done to₂ last x
+        go pick-sign e (pick-at v w l k) = lettered v (known e) l h (i .each w k) (pick-facing back v w)
 
   -- `;VW`, `|VW`: the parts in the order that they have under no converse, or under one
   module _ {ends : List ℕ} (table : Ends bytes ends) (p : Parts) (order : p ≡ inOrder (swaps back (getD bytes at 0)) (at + 1) (getD ends (at + 1) 0)) {to₁ to₂ : ℕ} {after last : List ℕ}

@@ -10,14 +10,14 @@ use Rattle.meaning.specs.Limits.{textLimit}
 use Rattle.meaning.specs.Rule.{Walk, Test, ofTest, ofWalk, walkText, testText, other}
 use Rattle.meaning.specs.Normal.{normalTest}
 use Rattle.meaning.proofs.Rewriting.{normal-figures, turned-figures, test-figures}
-use Rattle.rule.specs.declared.signs.Sign.the-variants.{NamedStep, OverWalk, OverTest, TwoWalks, NamedFluent, Denial, TwoTests, WalkThenTest}
+use Rattle.rule.specs.declared.signs.Sign.the-variants.{NamedStep, OverWalk, OverTest, TwoWalks, NamedFluent, Denial, TwoTests, WalkThenTest, SumStep, SomeWalk, SumFluent, SomeTest}
 use Rattle.rule.specs.Signs.{signOf}
 use Rattle.rule.specs.Standing.{Stands}
-use Rattle.rule.proofs.SignTable.{SignIs, sign-is, act-sign, undo-sign, seq-sign, alt-sign, star-sign, conv-sign, check-sign, fluent-sign, neg-sign, both-sign, diamond-sign}
+use Rattle.rule.proofs.SignTable.{SignIs, sign-is, act-sign, undo-sign, seq-sign, alt-sign, star-sign, conv-sign, check-sign, fluent-sign, neg-sign, both-sign, diamond-sign, sum-act-sign, sum-undo-sign, pick-sign, sum-fluent-sign, exists-sign}
 use Rattle.rule.proofs.Spread.{Spread, spread, some-text, inside, within}
-use Rattle.rule.proofs.Spread.{act-at, undo-at, seq-at, alt-at, star-at, check-at, conv-at, fluent-at, neg-at, both-at, diamond-at}
+use Rattle.rule.proofs.Spread.{act-at, undo-at, seq-at, alt-at, star-at, check-at, conv-at, fluent-at, neg-at, both-at, diamond-at, sum-act-at, sum-undo-at, pick-at, sum-fluent-at, exists-at}
 use Rattle.normal.specs.declared.rewrite.Parts.{Parts}
-use Rattle.normal.specs.Place.{WalkToWrite, TestToWrite, NumberHere, facing, WalkWritten, TestWritten}
+use Rattle.normal.specs.Place.{WalkToWrite, TestToWrite, NumberHere, LetterHere, facing, WalkWritten, TestWritten, NumberWritten, LetterWritten}
 use Rattle.normal.specs.Sign.{inOrder}
 use Rattle.normal.proofs.Standing.{behind}
 
@@ -70,6 +70,25 @@ module _ {bytes ends : List ℕ} {at to : ℕ} (h : WalkToWrite bytes ends at to
       go : {b : ℕ} {x : Walk} → SignIs b NamedStep → Spread bytes at b (ofWalk x) → to + length (walkText x) < 2 ^ 64 → at + length (walkText x) ≤ length bytes → NumberHere bytes (at + 1) (to + 1)
       go act-sign (act-at a d) low i = record { within = omega arith; low = omega arith }
       go undo-sign (undo-at a d) low i = record { within = omega arith; low = omega arith }
+
+  -- `bNNv`, `sNNv`: the number, and the letter behind it
+  pub sum-here : SumStep ≡ signOf (getD bytes at 0) → NumberHere bytes (at + 1) (to + 1) × LetterHere bytes (at + 3) (to + 3)
+  unfolding walkText
+  sum-here s = go (sign-is s) (spread (h .stands) _ refl) (h .low) (inside (h .stands))
+    where
+      go : {b : ℕ} {x : Walk} → SignIs b SumStep → Spread bytes at b (ofWalk x) → to + length (walkText x) < 2 ^ 64 → at + length (walkText x) ≤ length bytes
+          → NumberHere bytes (at + 1) (to + 1) × LetterHere bytes (at + 3) (to + 3)
+      go sum-act-sign (sum-act-at a v d l) low i = (record { within = omega arith; low = omega arith }, record { within = omega arith; low = omega arith })
+      go sum-undo-sign (sum-undo-at a v d l) low i = (record { within = omega arith; low = omega arith }, record { within = omega arith; low = omega arith })
+
+  -- `pvW`: the letter, and the part behind it
+  pub pick-here : SomeWalk ≡ signOf (getD bytes at 0) → LetterHere bytes (at + 1) (to + 1) × WalkToWrite bytes ends (at + 2) (to + 2)
+  unfolding walkText
+  pick-here s = go (sign-is s) (spread (h .stands) _ refl) (h .low) (inside (h .stands))
+    where
+      go : {b : ℕ} {x : Walk} → SignIs b SomeWalk → Spread bytes at b (ofWalk x) → to + length (walkText x) < 2 ^ 64 → at + length (walkText x) ≤ length bytes
+          → LetterHere bytes (at + 1) (to + 1) × WalkToWrite bytes ends (at + 2) (to + 2)
+      go pick-sign (pick-at v w l k) low i = (record { within = omega arith; low = omega arith }, record { marked = h .marked; walk = w; stands = k; low = omega arith })
 
   -- Of two parts, in whichever order: the one that is written first, and the other, which is written behind it.
   module _ (p : Parts) (exchanged : Bool) (order : p ≡ inOrder exchanged (at + 1) (getD ends (at + 1) 0)) where
@@ -146,6 +165,23 @@ module _ {bytes ends : List ℕ} {at to : ℕ} (h : TestToWrite bytes ends at to
       go : {b : ℕ} {t : Test} → SignIs b Denial → Spread bytes at b (ofTest t) → to + length (testText t) < 2 ^ 64 → TestToWrite bytes ends (at + 1) (to + 1)
       go neg-sign (neg-at t s) low = record { marked = h .marked; test = t; stands = s; low = omega arith }
 
+  -- `gNNv`, and `evT`
+  pub sum-fluent-here : SumFluent ≡ signOf (getD bytes at 0) → NumberHere bytes (at + 1) (to + 1) × LetterHere bytes (at + 3) (to + 3)
+  unfolding walkText
+  sum-fluent-here s = go (sign-is s) (spread (h .stands) _ refl) (h .low) (inside (h .stands))
+    where
+      go : {b : ℕ} {t : Test} → SignIs b SumFluent → Spread bytes at b (ofTest t) → to + length (testText t) < 2 ^ 64 → at + length (testText t) ≤ length bytes
+          → NumberHere bytes (at + 1) (to + 1) × LetterHere bytes (at + 3) (to + 3)
+      go sum-fluent-sign (sum-fluent-at a v d l) low i = (record { within = omega arith; low = omega arith }, record { within = omega arith; low = omega arith })
+
+  pub exists-here : SomeTest ≡ signOf (getD bytes at 0) → LetterHere bytes (at + 1) (to + 1) × TestToWrite bytes ends (at + 2) (to + 2)
+  unfolding walkText
+  exists-here s = go (sign-is s) (spread (h .stands) _ refl) (h .low) (inside (h .stands))
+    where
+      go : {b : ℕ} {t : Test} → SignIs b SomeTest → Spread bytes at b (ofTest t) → to + length (testText t) < 2 ^ 64 → at + length (testText t) ≤ length bytes
+          → LetterHere bytes (at + 1) (to + 1) × TestToWrite bytes ends (at + 2) (to + 2)
+      go exists-sign (exists-at v t l k) low i = (record { within = omega arith; low = omega arith }, record { marked = h .marked; test = t; stands = k; low = omega arith })
+
   -- `&TU`
   pub both-first : TwoTests ≡ signOf (getD bytes at 0) → TestToWrite bytes ends (at + 1) (to + 1)
   unfolding walkText
@@ -183,3 +219,13 @@ module _ {bytes ends : List ℕ} {at to : ℕ} (h : TestToWrite bytes ends at to
         record { marked = h .marked; test = t; stands = behind (h .marked .table) p q; low = omega (arith, length-append (walkText w) (testText t), k .wrote, facing-short false w) },
         omega (arith, h .marked .table .each (at + 1) (ofWalk w) p),
       )
+
+-- behind what is written
+pub letter-next : (to : ℕ) {bytes mid after : List ℕ} {at at₁ to₁ : ℕ} → NumberWritten bytes at (to + 1) mid to₁ after → LetterHere bytes at₁ (to + 3) → LetterHere bytes at₁ to₁
+letter-next to w h = record { within = h .within; low = omega (arith, w .wrote, h .low) }
+
+pub walk-behind : (to : ℕ) {bytes ends mid after : List ℕ} {at at₁ to₁ : ℕ} → LetterWritten bytes at (to + 1) mid to₁ after → WalkToWrite bytes ends at₁ (to + 2) → WalkToWrite bytes ends at₁ to₁
+walk-behind to w h = record { marked = h .marked; walk = h .walk; stands = h .stands; low = omega (arith, w .wrote, h .low) }
+
+pub test-behind : (to : ℕ) {bytes ends mid after : List ℕ} {at at₁ to₁ : ℕ} → LetterWritten bytes at (to + 1) mid to₁ after → TestToWrite bytes ends at₁ (to + 2) → TestToWrite bytes ends at₁ to₁
+test-behind to w h = record { marked = h .marked; test = h .test; stands = h .stands; low = omega (arith, w .wrote, h .low) }

@@ -12,15 +12,17 @@ use Rattle.meaning.specs.Theory.{World}
 use Rattle.meaning.specs.Rule.{Walk, Test, Kind, Rule, ofTest, ofWalk, Opens, text, upTo, other, backwardIn}
 use Rattle.meaning.specs.Leads.{Leads, Holds}
 use Rattle.meaning.specs.Normal.{normal, normalTest, normalRule, signsIn, WalkKept, TestKept}
-use Rattle.meaning.specs.Refusal.{Accepted, AcceptedWith, BadRule, BadNames, TooDeep, BadJob, TooShort}
+use Rattle.meaning.specs.Refusal.{Accepted, AcceptedWith, Allowed, BadRule, BadNames, TooDeep, BadJob, Unbound, TooShort}
 use Rattle.meaning.proofs.Normal.{normal-leads-at, normal-holds-at}
 use Rattle.meaning.proofs.Reading.{unique-reading}
-use Rattle.meaning.proofs.Refusal.{refused-not-accepted, passes, accepts, not-first, not-rest}
+use Rattle.meaning.proofs.Refusal.{refused-not-accepted, passes, accepts, not-first, not-rest, accepted-parts}
 use Rattle.meaning.proofs.Rewriting.{rule-figures, rule-opens, rule-twice, rule-job, normal-kept, test-kept}
-use Rattle.rule.specs.Outcome.{Spelled, With}
+use Rattle.rule.specs.Outcome.{Spelled, With, ruleRows}
+use Rattle.rule.proofs.Outcomes.{Known, accepted-known}
 use Rattle.rule.proofs.Spread.{some-text}
 use Rattle.theory.specs.declared.Counts.{Counts}
-use Rattle.normal.specs.Answer.{normalText, normalRows, NormalWritten, NormalAnswered}
+use Rattle.normal.specs.Answer.{normalText, outputRows, normalRows, NormalWritten, NormalAnswered}
+use Rattle.normal.proofs.Variables.{rule-free, rule-varies}
 
 -- the written bytes are the normal form of the rule that the text spells
 bytes-written : {kind : Kind} {bytes before : List ℕ} {count : ℕ} {after : List ℕ} (h : NormalWritten kind bytes before count after) → take count after ≡ normalText (h .rule)
@@ -97,15 +99,25 @@ module _ {kind : Kind} {bytes : List ℕ} {counts : Counts} {before : List ℕ} 
   spelled-first : (fault : Rule → Type 0) → fault (h .right .rule) → With (Spelled true kind bytes) fault
   spelled-first fault f = record { rule = h .right .rule; spells = h .right .spells; faulty = f }
 
-  no-six : BadRule kind (take count after) → ⊥
+  -- it has no variables where those have no values
+  known : Known true kind bytes counts
+  known = accepted-known true kind bytes counts (not-rest (accepted-parts (ruleRows true kind bytes counts) (outputRows kind bytes (length before)) (h .accepted) .0))
+
+  allowed : Allowed (counts .domain) (h .right .rule)
+  allowed = subst (Allowed (counts .domain)) (unique-reading (known .spells) (h .right .spells) .0) (known .allowed)
+
+  no-six : BadRule (counts .domain) kind (take count after) → ⊥
   no-six = ⊎-elim
       (λ e. omega (arith, some-text (normalRule (h .right .rule)), ap length (sym written-bytes ∙ e)))
       (⊎-elim
       (λ l. not-first (not-rest (h .accepted)) (inr (inl (omega (arith, ap length written-bytes, h .right .counted, shorter-by-signs)))))
-      (λ n. n (normalRule (h .right .rule)) reads-back))
+      (λ n. n (normalRule (h .right .rule)) reads-back (λ zero. rule-varies (h .right .rule) ∙ allowed zero)))
 
-  seven : BadNames (counts .fluents) (counts .actions) (normalRule (h .right .rule)) → BadNames (counts .fluents) (counts .actions) (h .right .rule)
-  seven = rw (rule-figures upTo other (h .right .rule) .named, rule-figures other upTo (h .right .rule) .named) (λ b. b)
+  abbrev lacks : Rule → Type 0
+  lacks = BadNames (counts .domain) (counts .fluents) (counts .actions)
+
+  seven : lacks (normalRule (h .right .rule)) → lacks (h .right .rule)
+  seven = rw (rule-figures (upTo (counts .domain)) other (h .right .rule) .named, rule-figures other (upTo (counts .domain)) (h .right .rule) .named) (λ b. b)
 
   eight : TooDeep (normalRule (h .right .rule)) → TooDeep (h .right .rule)
   eight l = omega (arith, rule-figures other other (h .right .rule) .shallow)
@@ -116,6 +128,9 @@ module _ {kind : Kind} {bytes : List ℕ} {counts : Counts} {before : List ℕ} 
       go : (k : Bool) → backwardIn (h .right .rule) ≡ k → backwardIn (h .right .rule) ≡ true
       go true e = e
       go false e = absurd (false≢true (sym (rule-job (h .right .rule) e) ∙ b .1))
+
+  thirteen : Unbound (normalRule (h .right .rule)) → Unbound (h .right .rule)
+  thirteen u = record { variable = u .variable; free = sym (rule-free (u .variable) (h .right .rule)) ∙ u .free }
 
   -- the normal form is its own normal form
   same-text : normalText (normalRule (h .right .rule)) ≡ normalText (h .right .rule)
@@ -130,12 +145,14 @@ module _ {kind : Kind} {bytes : List ℕ} {counts : Counts} {before : List ℕ} 
       let a₇ = not-rest (not-rest a₃) in
       let a₈ = not-rest a₇ in
       let a₉ = not-rest a₈ in
+      let a₁₃ = not-rest a₉ in
       passes (not-first a₃)
       (passes no-six
-      (passes (λ w. not-first a₇ (spelled-first (BadNames (counts .fluents) (counts .actions)) (seven (spelled-again (BadNames (counts .fluents) (counts .actions)) w))))
+      (passes (λ w. not-first a₇ (spelled-first lacks (seven (spelled-again lacks w))))
       (passes (λ w. not-first a₈ (spelled-first TooDeep (eight (spelled-again TooDeep w))))
       (passes (λ w. not-first a₉ (spelled-first (BadJob kind) (nine (spelled-again (BadJob kind) w))))
-      (passes (λ w. too-short room l (spelled-again (λ r. TooShort room (length (normalText r))) w)) accepts)))))
+      (passes (λ w. not-first a₁₃ (spelled-first Unbound (thirteen (spelled-again Unbound w))))
+      (passes (λ w. too-short room l (spelled-again (λ r. TooShort room (length (normalText r))) w)) accepts))))))
 
   -- so it is accepted, and changes nothing
   pub again : {before′ after′ : List ℕ} {number′ count′ : ℕ}

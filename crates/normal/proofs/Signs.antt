@@ -4,22 +4,22 @@ use mathlib.Core.Bool.{Bool, true, false, not, false≢true}
 use mathlib.Core.List.{[], _∷_, _++_}
 use Prim.Native.Nat.{ℕ}
 use borrow.Author.Tests.{ne-eqb}
-use Rattle.meaning.specs.Rule.{Walk, Test, act, undo, next, prev, seq, alt, star, check, conv, walkText, testText, digits}
+use Rattle.meaning.specs.Rule.{Walk, Test, act, undo, next, prev, seq, alt, star, check, conv, pick, Variable, plain, plus, letter, walkText, testText, digits}
 use Rattle.meaning.specs.Normal.{normal, normalTest}
 use Rattle.normal.specs.Place.{facing}
 use Rattle.normal.specs.Sign.{turnedSign, facingSign}
 
-pub turned-other : (b : ℕ) → (b ≡ 97 → ⊥) → (b ≡ 114 → ⊥) → (b ≡ 110 → ⊥) → (b ≡ 117 → ⊥) → turnedSign b ≡ b
-turned-other b a r n u = simp (ne-eqb b 97 a, ne-eqb b 114 r, ne-eqb b 110 n, ne-eqb b 117 u)
+pub turned-other : (b : ℕ) → (b ≡ 97 → ⊥) → (b ≡ 114 → ⊥) → (b ≡ 110 → ⊥) → (b ≡ 117 → ⊥) → (b ≡ 98 → ⊥) → (b ≡ 115 → ⊥) → turnedSign b ≡ b
+turned-other b a r n u f t = simp (ne-eqb b 97 a, ne-eqb b 114 r, ne-eqb b 110 n, ne-eqb b 117 u, ne-eqb b 98 f, ne-eqb b 115 t)
 
 -- What each sign of a walk is rewritten to, forwards and under a converse.
 
-pub act-facing : (back : Bool) (a : ℕ) → walkText (facing back (act a)) ≡ facingSign back 97 ∷ digits a
+pub act-facing : (back : Bool) (a : ℕ) → walkText (facing back (act (plain a))) ≡ facingSign back 97 ∷ digits a
 unfolding normal walkText
 act-facing false a = refl
 act-facing true a = refl
 
-pub undo-facing : (back : Bool) (a : ℕ) → walkText (facing back (undo a)) ≡ facingSign back 114 ∷ digits a
+pub undo-facing : (back : Bool) (a : ℕ) → walkText (facing back (undo (plain a))) ≡ facingSign back 114 ∷ digits a
 unfolding normal walkText
 undo-facing false a = refl
 undo-facing true a = refl
@@ -63,3 +63,18 @@ pub conv-facing : (back : Bool) (w : Walk) → walkText (facing back (conv w)) �
 unfolding normal walkText
 conv-facing false w = refl
 conv-facing true w = refl
+
+pub sum-act-facing : (back : Bool) (a : ℕ) (v : Variable) → walkText (facing back (act (plus a v))) ≡ facingSign back 98 ∷ (digits a ++ (letter v ∷ []))
+unfolding normal walkText
+sum-act-facing false a v = refl
+sum-act-facing true a v = refl
+
+pub sum-undo-facing : (back : Bool) (a : ℕ) (v : Variable) → walkText (facing back (undo (plus a v))) ≡ facingSign back 115 ∷ (digits a ++ (letter v ∷ []))
+unfolding normal walkText
+sum-undo-facing false a v = refl
+sum-undo-facing true a v = refl
+
+pub pick-facing : (back : Bool) (v : Variable) (w : Walk) → walkText (facing back (pick v w)) ≡ facingSign back 112 ∷ (letter v ∷ walkText (facing back w))
+unfolding normal walkText
+pick-facing false v w = refl
+pick-facing true v w = refl

@@ -10,7 +10,7 @@ use Rattle.rule.specs.declared.signs.Sign.the-variants.{TwoWalks, WalkThenTest}
 use Rattle.rule.specs.Signs.{signOf}
 use Rattle.rule.specs.Standing.{Stands, Ends}
 use Rattle.rule.proofs.Answers.{NoWalk, NoTest}
-use Rattle.rule.proofs.Spread.{Spread, spread, act-at, undo-at, next-at, prev-at, seq-at, alt-at, star-at, check-at, conv-at, always-at, fluent-at, neg-at, both-at, diamond-at}
+use Rattle.rule.proofs.Spread.{Spread, spread, act-at, undo-at, next-at, prev-at, seq-at, alt-at, star-at, check-at, conv-at, always-at, fluent-at, neg-at, both-at, diamond-at, sum-act-at, sum-undo-at, pick-at, sum-fluent-at, exists-at}
 
 -- where a walk stands, its sign is none but a walk's; a test's likewise
 of-walk : {bytes : List ℕ} {at b : ℕ} {x : Walk} {s : Sign} → Spread bytes at b (ofWalk x) → s ≡ signOf b → NoWalk s → ⊥
@@ -24,6 +24,9 @@ of-walk (alt-at v w p q) e n = subst NoWalk e n
 of-walk (star-at w p) e n = subst NoWalk e n
 of-walk (check-at t p) e n = subst NoWalk e n
 of-walk (conv-at w p) e n = subst NoWalk e n
+of-walk (sum-act-at a v d l) e n = subst NoWalk e n
+of-walk (sum-undo-at a v d l) e n = subst NoWalk e n
+of-walk (pick-at v w l p) e n = subst NoWalk e n
 
 of-test : {bytes : List ℕ} {at b : ℕ} {t : Test} {s : Sign} → Spread bytes at b (ofTest t) → s ≡ signOf b → NoTest s → ⊥
 unfolding signOf
@@ -32,6 +35,8 @@ of-test (fluent-at i d) e n = subst NoTest e n
 of-test (neg-at t p) e n = subst NoTest e n
 of-test (both-at t u p q) e n = subst NoTest e n
 of-test (diamond-at w t p q) e n = subst NoTest e n
+of-test (sum-fluent-at i v d l) e n = subst NoTest e n
+of-test (exists-at v t l p) e n = subst NoTest e n
 
 -- so what is left when the other signs of a walk, of a test, have had their arms
 pub two-walks : {bytes : List ℕ} {at : ℕ} {x : Walk} {s : Sign} → Stands bytes at (ofWalk x) → s ≡ signOf (getD bytes at 0) → (s ≡ TwoWalks) ⊎ NoWalk s → TwoWalks ≡ signOf (getD bytes at 0)

@@ -7,15 +7,15 @@ use Prim.Native.Nat.{ℕ, _+_}
 use lib.ListN.{getD, set}
 use Rattle.meaning.specs.Rule.{Test, ofTest, walkText}
 use Rattle.meaning.specs.Normal.{normal, normalTest}
-use Rattle.rule.specs.declared.signs.Sign.the-variants.{Constant, NamedFluent, Denial, TwoTests, WalkThenTest}
+use Rattle.rule.specs.declared.signs.Sign.the-variants.{Constant, NamedFluent, Denial, TwoTests, WalkThenTest, SumFluent, SomeTest}
 use Rattle.rule.specs.Signs.{signOf}
 use Rattle.rule.specs.Standing.{Stands, Ends}
-use Rattle.rule.proofs.SignTable.{SignIs, sign-is, always-sign, fluent-sign, neg-sign, both-sign, diamond-sign}
-use Rattle.rule.proofs.Spread.{Spread, spread, always-at, fluent-at, neg-at, both-at, diamond-at}
-use Rattle.normal.specs.Place.{Written, WalkWritten, TestWritten, NumberWritten}
+use Rattle.rule.proofs.SignTable.{SignIs, sign-is, always-sign, fluent-sign, neg-sign, both-sign, diamond-sign, sum-fluent-sign, exists-sign}
+use Rattle.rule.proofs.Spread.{Spread, spread, always-at, fluent-at, neg-at, both-at, diamond-at, sum-fluent-at, exists-at}
+use Rattle.normal.specs.Place.{Written, WalkWritten, TestWritten, NumberWritten, LetterWritten}
 use Rattle.normal.proofs.Arms.{SignWritten}
 use Rattle.normal.proofs.Standing.{behind}
-use Rattle.normal.proofs.Writing.{leaf, named, one, two}
+use Rattle.normal.proofs.Writing.{leaf, named, sum, lettered, one, two}
 
 module _ {bytes : List ℕ} {at to : ℕ} {before mid : List ℕ} (sign : SignWritten bytes false at to before mid) where
   seen : {b : ℕ} → getD bytes at 0 ≡ b → mid ≡ set before to b
@@ -48,6 +48,24 @@ module _ {bytes : List ℕ} {at to : ℕ} {before mid : List ℕ} (sign : SignWr
       where
         go : {b : ℕ} {t : Test} → SignIs b Denial → getD bytes at 0 ≡ b → Spread bytes at b (ofTest t) → Done to₁ after t
         go neg-sign e (neg-at t k) = one (seen e) (h .each t k) refl
+
+    -- `gNNv`
+    pub sum-written : {to₂ : ℕ} {last : List ℕ} → SumFluent ≡ signOf (getD bytes at 0) → NumberWritten bytes (at + 1) (to + 1) mid to₁ after → LetterWritten bytes (at + 3) to₁ after to₂ last
+        → TestWritten bytes at to before to₂ last
+    unfolding normal walkText
+    sum-written {to₂} {last} s h i = record { each = λ t k. go (sign-is s) refl (spread k _ refl) }
+      where
+        go : {b : ℕ} {t : Test} → SignIs b SumFluent → getD bytes at 0 ≡ b → Spread bytes at b (ofTest t) → Done to₂ last t
+        go sum-fluent-sign e (sum-fluent-at a v d l) = sum (seen e) a v d l h i refl
+
+    -- `evT`
+    pub exists-written : {to₂ : ℕ} {last : List ℕ} → SomeTest ≡ signOf (getD bytes at 0) → LetterWritten bytes (at + 1) (to + 1) mid to₁ after → TestWritten bytes (at + 2) to₁ after to₂ last
+        → TestWritten bytes at to before to₂ last
+    unfolding normal walkText
+    exists-written {to₂} {last} s h i = record { each = λ t k. go (sign-is s) refl (spread k _ refl) }
+      where
+        go : {b : ℕ} {t : Test} → SignIs b SomeTest → getD bytes at 0 ≡ b → Spread bytes at b (ofTest t) → Done to₂ last t
+        go exists-sign e (exists-at v t l k) = lettered v (seen e) l h (i .each t k) refl
 
     module _ {ends : List ℕ} (table : Ends bytes ends) {middle to₂ : ℕ} {last : List ℕ} (m : middle ≡ getD ends (at + 1) 0) (i : TestWritten bytes middle to₁ after to₂ last) where
       second : (u : Test) → Stands bytes (getD ends (at + 1) 0) (ofTest u) → Written (ofTest (normalTest u)) to₁ after to₂ last

@@ -54,3 +54,12 @@ pub record NumberHere (bytes : List ℕ) (at to : ℕ) : Type 0 where
 pub record NumberWritten (bytes : List ℕ) (at to : ℕ) (before : List ℕ) (to′ : ℕ) (after : List ℕ) : Type 0 where
   pub wrote : to′ ≡ to + 2
   pub copied : after ≡ set (set before to (getD bytes at 0)) (to + 1) (getD bytes (at + 1) 0)
+
+-- the letter of a variable, copied
+pub record LetterHere (bytes : List ℕ) (at to : ℕ) : Type 0 where
+  pub within : at < length bytes
+  pub low : to + 1 < 2 ^ 64
+
+pub record LetterWritten (bytes : List ℕ) (at to : ℕ) (before : List ℕ) (to′ : ℕ) (after : List ℕ) : Type 0 where
+  pub wrote : to′ ≡ to + 1
+  pub copied : after ≡ set before to (getD bytes at 0)

@@ -4,9 +4,9 @@ use Prim.Native.Nat.{ℕ}
 use lib.Dec.{eqb}
 use Rattle.normal.specs.declared.rewrite.Parts.{Parts}
 
--- "`a` and `r` turn into each other, so do `n` and `u`"
+-- "`a` and `r` turn into each other, so do `n` and `u`"; "Normal form turns `b` and `s` into each other"
 abbrev pub turnedSign : ℕ → ℕ
-turnedSign b = cond (eqb b 97) 114 (cond (eqb b 114) 97 (cond (eqb b 110) 117 (cond (eqb b 117) 110 b)))
+turnedSign b = cond (eqb b 97) 114 (cond (eqb b 114) 97 (cond (eqb b 110) 117 (cond (eqb b 117) 110 (cond (eqb b 98) 115 (cond (eqb b 115) 98 b)))))
 
 abbrev pub facingSign : Bool → ℕ → ℕ
 facingSign false b = b

@@ -2,7 +2,7 @@
 // signs, and where a second part begins of the table of ends.
 ghost use mathlib.Core.Path.{_≡_};
 ghost use Rattle.normal.specs.Sign.{facingSign, swaps, inOrder};
-ghost use Rattle.normal.specs.Place.{WalkToWrite, TestToWrite, NumberHere, WalkWritten, TestWritten, NumberWritten};
+ghost use Rattle.normal.specs.Place.{WalkToWrite, TestToWrite, NumberHere, LetterHere, WalkWritten, TestWritten, NumberWritten, LetterWritten};
 use super::write::put;
 use rule::ends::ENDS_ROOM;
 use rule::ends::second;
@@ -15,7 +15,7 @@ pub struct Parts {
     pub second: usize,
 }
 
-// The sign under a converse: `a` and `r` turn into each other, so do `n` and `u`.
+// The sign under a converse: `a` and `r` turn into each other, so do `n` and `u`, and `b` and `s`.
 fn facing(sign: u8, back: bool) -> u8
     ensures { λ r. ⌜ r ≡ facingSign back sign ⌝ }
 {
@@ -25,6 +25,8 @@ fn facing(sign: u8, back: bool) -> u8
             b'r' => b'a',
             b'n' => b'u',
             b'u' => b'n',
+            b'b' => b's',
+            b's' => b'b',
             _ => sign,
         }
     } else {
@@ -40,6 +42,15 @@ fn number(text: &[u8], at: usize, out: &mut [u8], to: usize) -> usize
     put(out, to, text[at]);
     put(out, to + 1, text[at + 1]);
     to + 2
+}
+
+// The letter of a variable.
+fn letter(text: &[u8], at: usize, out: &mut [u8], to: usize) -> usize
+    requires { ⌜ LetterHere (now text) at to ⌝ }
+    ensures { λ r. ⌜ LetterWritten (now (text .entry)) at to (now (out .entry)) r (now (out .exit)) ⌝ }
+{
+    put(out, to, text[at]);
+    to + 1
 }
 
 // Of a sequence under a converse the second part comes first.
@@ -84,6 +95,14 @@ pub(crate) fn walk(
         Sign::NamedStep => number(text, from, out, next),
         Sign::OverWalk => walk(text, ends, from, back, out, next),
         Sign::OverTest => test(text, ends, from, out, next),
+        Sign::SumStep => {
+            let named = number(text, from, out, next);
+            letter(text, at + 3, out, named)
+        }
+        Sign::SomeWalk => {
+            let bound = letter(text, from, out, next);
+            walk(text, ends, at + 2, back, out, bound)
+        }
         _ => {
             let middle = second(ends, at);
             let parts = order(sign, back, from, middle);
@@ -118,6 +137,14 @@ pub(crate) fn test(
             let middle = second(ends, at);
             let done = test(text, ends, from, out, next);
             test(text, ends, middle, out, done)
+        }
+        Sign::SumFluent => {
+            let named = number(text, from, out, next);
+            letter(text, at + 3, out, named)
+        }
+        Sign::SomeTest => {
+            let bound = letter(text, from, out, next);
+            test(text, ends, at + 2, out, bound)
         }
         _ => {
             let middle = second(ends, at);

@@ -5,12 +5,12 @@ use Prim.Native.Nat.{ℕ}
 use native.Mathlib.Omega.{arith}
 use lib.ListN.{getD}
 use Rattle.refusal.specs.declared.Refusal.{Refusal}
-use Rattle.refusal.specs.declared.Refusal.the-variants.{SheetTooLong, BadLine, BadNumber, LacksFluent, BadLog, BadRule, LacksName, TooDeep, BackwardJob, BadPosition, NoFinish, ShortOutput}
+use Rattle.refusal.specs.declared.Refusal.the-variants.{SheetTooLong, BadLine, BadNumber, LacksFluent, BadLog, BadRule, LacksName, TooDeep, BackwardJob, BadPosition, NoFinish, ShortOutput, Unbound}
 use Rattle.refusal.specs.Number.{numberOf}
 
 -- the cases in the order of their numbers; none has the number 0
 cases : List Refusal
-cases = SheetTooLong ∷ (SheetTooLong ∷ (BadLine ∷ (BadNumber ∷ (LacksFluent ∷ (BadLog ∷ (BadRule ∷ (LacksName ∷ (TooDeep ∷ (BackwardJob ∷ (BadPosition ∷ (NoFinish ∷ (ShortOutput ∷ []))))))))))))
+cases = SheetTooLong ∷ (SheetTooLong ∷ (BadLine ∷ (BadNumber ∷ (LacksFluent ∷ (BadLog ∷ (BadRule ∷ (LacksName ∷ (TooDeep ∷ (BackwardJob ∷ (BadPosition ∷ (NoFinish ∷ (ShortOutput ∷ (Unbound ∷ [])))))))))))))
 
 case-of : (r : Refusal) → getD cases (numberOf r) SheetTooLong ≡ r
 unfolding cases
@@ -26,6 +26,7 @@ case-of BackwardJob = refl
 case-of BadPosition = refl
 case-of NoFinish = refl
 case-of ShortOutput = refl
+case-of Unbound = refl
 
 pub one-number : (r s : Refusal) → numberOf r ≡ numberOf s → r ≡ s
 one-number r s e = sym (case-of r) ∙ ap (λ (n : ℕ). getD cases n SheetTooLong) e ∙ case-of s

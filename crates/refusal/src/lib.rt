@@ -1,4 +1,4 @@
-// The refusals of document 01: one case for each row of its table "Numbers of refusal". Knows no call and no input.
+// The refusals of document 01: one case for each row of its table "Numbers of refusal", and those that document 02 adds. Knows no call and no input.
 ghost use mathlib.Core.Path.{_≡_};
 ghost use Rattle.refusal.specs.Number.{numberOf};
 
@@ -15,6 +15,7 @@ pub enum Refusal {
     BadPosition,
     NoFinish,
     ShortOutput,
+    Unbound,
 }
 
 // The number that the table gives this refusal.
@@ -34,5 +35,6 @@ pub fn number(r: Refusal) -> u8
         Refusal::BadPosition => 10,
         Refusal::NoFinish => 11,
         Refusal::ShortOutput => 12,
+        Refusal::Unbound => 13,
     }
 }

@@ -1,4 +1,5 @@
 pub mod SignTable
+pub mod Variables
 pub mod Numbers
 pub mod Answers
 pub mod Outcomes

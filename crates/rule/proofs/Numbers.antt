@@ -6,7 +6,7 @@ use native.Mathlib.Nat.{add-zero}
 use native.Mathlib.Omega.{arith}
 use lib.ListN.{length, drop, getD, length-drop}
 use lib.Seq.{drop-drop, drop-append-seam, getD-drop}
-use Rattle.meaning.specs.Limits.{textLimit, numberLimit}
+use Rattle.meaning.specs.Limits.{textLimit, numberLimit, domainLimit}
 use Rattle.meaning.specs.Rule.{digits}
 use Rattle.spelling.specs.declared.Digits.{Digits}
 use Rattle.spelling.specs.declared.Digits.the-variants.{Number, Other}
@@ -35,10 +35,11 @@ module _ (bytes : List ℕ) (at n : ℕ) (h : NumberAt bytes at (Number n)) wher
   number-ones = byte bytes (at + 1) (sym (drop-drop 1 at bytes) ∙ ap (drop 1) (h .1))
 
 -- behind a sign, what a number ends ends within the text
-pub named-within : (text : List ℕ) (at : ℕ) (n : Digits) → length text ≤ textLimit → NumberAt text (at + 1) n → NamedWithin n (at + 3)
-named-within text at Other short h = tt
-named-within text at (Number n) short h = (h .0, omega (arith, short, ap length (h .1), length-drop (at + 1) text))
+pub named-within : (text : List ℕ) (at more : ℕ) (n : Digits) → length text ≤ textLimit → more ≤ domainLimit → NumberAt text (at + 1) n
+    → NamedWithin n more (at + 3)
+named-within text at more Other short few h = tt
+named-within text at more (Number n) short few h = (h .0, few, omega (arith, short, ap length (h .1), length-drop (at + 1) text))
 
 -- so much is known of a name that is this number
-pub number-named : {name : Digits} {n : ℕ} (end : ℕ) → name ≡ Number n → NamedWithin name end → NamedWithin (Number n) end
-number-named end e h = subst (λ (x : Digits). NamedWithin x end) e h
+pub number-named : {name : Digits} {n : ℕ} (more end : ℕ) → name ≡ Number n → NamedWithin name more end → NamedWithin (Number n) more end
+number-named more end e h = subst (λ (x : Digits). NamedWithin x more end) e h

@@ -1,7 +1,7 @@
 -- Laws of what the calls answer: how the checks, one after the other, make a refusal or an acceptance, what an acceptance tells of the rule, and that the
 -- contracts leave one outcome. No code.
 use mathlib.Core.Path.{_≡_, refl, sym, ap, ap₂, subst, subst⁻¹, _∙_}
-use mathlib.Core.Logic.{_⊎_, inl, inr, ⊎-elim, _↔_}
+use mathlib.Core.Logic.{_⊎_, inl, inr, ⊎-elim, _↔_, Iff·trans}
 use mathlib.Core.Bool.{Bool, true, false}
 use mathlib.Core.List.{List, [], _∷_, cons≢nil}
 use Prim.Native.Nat.{ℕ, _+_, _≤_, _<_}
@@ -10,9 +10,10 @@ use native.Mathlib.Omega.{arith}
 use lib.ListN.{length, drop, length-append, length-drop}
 use lib.Seq.{take-all, drop-append-seam}
 use denote.Ref.{RefT, now}
+use Rattle.laws.proofs.Truth.{no-truth, off-on}
 use Rattle.meaning.specs.Limits.{textLimit, depthLimit}
-use Rattle.meaning.specs.Rule.{Kind, testKind, walkKind, jobKind, Rule, Opens, text as spelling, depth, actionsIn, fluentsIn, backwardIn}
-use Rattle.meaning.specs.Refusal.{Row, _when_, FirstHolding, Refused, Accepted, falls, BadNames, TooDeep, BadJob}
+use Rattle.meaning.specs.Rule.{Kind, testKind, walkKind, jobKind, Rule, Variable, Opens, text as spelling, depth, actionsIn, fluentsIn, backwardIn, freeIn, variesIn}
+use Rattle.meaning.specs.Refusal.{Row, _when_, FirstHolding, Refused, Accepted, falls, Allowed, BadNames, TooDeep, BadJob, Unbound}
 use Rattle.meaning.proofs.Refusal.{past, here, accepts, passes, answered-determined}
 use Rattle.meaning.proofs.Reading.{unique-reading, opens?}
 use Rattle.refusal.specs.declared.Refusal.{Refusal}
@@ -25,6 +26,7 @@ use Rattle.rule.specs.Facts.{factsOf}
 use Rattle.rule.specs.Read.{ReadAt}
 use Rattle.rule.specs.Outcome.{Spelled, Unspelled, With, textRows, ruleRows, bytesFrom, PartAt, ReadAnswered}
 use Rattle.rule.specs.Judged.{Fitting, SurveyedAs, Opening, factRows, JudgedAs}
+use Rattle.rule.proofs.Variables.{some-free}
 use Rattle.rule.proofs.Answers.{text-some, found-within}
 
 -- Two lists with the same numbers, whose sentences hold alike, give the same answer.
@@ -53,35 +55,52 @@ no-rest [] e = refl
 no-rest (b ∷ rest) e = absurd (omega arith)
 
 -- What opening a text answers.
-module _ (kind : Kind) (bytes : List ℕ) where
-  pub too-long : (whole : Bool) → textLimit < length bytes → Unspelled whole kind bytes
+module _ (kind : Kind) (domain : ℕ) (bytes : List ℕ) where
+  pub too-long : (whole : Bool) → textLimit < length bytes → Unspelled whole kind domain bytes
   too-long true h = inr (inl h)
   too-long false h = inr (inl h)
 
-  pub no-rule : (whole : Bool) → ReadAt kind bytes 0 Read.Refused → Unspelled whole kind bytes
-  no-rule true h = inr (inr (λ r o. h r [] o))
-  no-rule false h = inr (inr h)
+  pub no-rule : (whole : Bool) → ReadAt kind domain bytes 0 Read.Refused → Unspelled whole kind domain bytes
+  no-rule true h = inr (inr (λ r o a. h r [] o))
+  no-rule false h = inr (inr (λ r rest o a. h r rest o))
 
   -- where a rule ends, and where the text
-  end-is : (f : Facts) (r : Rule) → f ≡ factsOf (0 + length (spelling r)) r → f .end ≡ length (spelling r)
+  end-is : (f : Facts) (r : Rule) → f ≡ factsOf domain (0 + length (spelling r)) r → f .end ≡ length (spelling r)
   end-is f r e = ap (λ (g : Facts). g .end) e ∙ zero-add (length (spelling r))
 
   length-is : (r : Rule) (rest : List ℕ) → Opens kind bytes r rest → length bytes ≡ length (spelling r) + length rest
   length-is r rest o = ap length (o .spells) ∙ length-append (spelling r) rest
 
-  pub opens-part : (f : Facts) → length bytes ≤ textLimit → ReadAt kind bytes 0 (Read.Found f) → Opening false kind bytes f
-  opens-part f short (r, rest, o, e) =
-      record { short = short; rule = r; spells = (rest, o); told = e ∙ ap (λ (n : ℕ). factsOf n r) (zero-add (length (spelling r))) }
+  -- a rule with variables where they have no values
+  pub no-values : (whole : Bool) (f : Facts) → (domain ≡ 0) × (f .varies ≡ true) → ReadAt kind domain bytes 0 (Read.Found f) → Unspelled whole kind domain bytes
+  no-values whole f (zero, varies) (r, rest, o, e) = go whole
+    where
+      barred : (r′ : Rule) (rest′ : List ℕ) → Opens kind bytes r′ rest′ → Allowed domain r′ → ⊥
+      barred r′ rest′ o′ a =
+          off-on (a zero) (ap variesIn (sym (unique-reading o o′ .0)) ∙ sym (ap (λ (g : Facts). g .varies) e) ∙ varies)
 
-  -- where the unread part is empty, nothing follows the rule
-  pub opens-whole : (f : Facts) → length bytes ≤ textLimit → length (drop (f .end) bytes) ≤ 0 → ReadAt kind bytes 0 (Read.Found f) → Opening true kind bytes f
-  opens-whole f short end (r, rest, o, e) =
-      let none = no-rest rest (omega (arith, end-is f r e, length-is r rest o, length-drop (f .end) bytes)) in
-      record { short = short; rule = r; spells = subst (Opens kind bytes r) none o; told = e ∙ ap (λ (n : ℕ). factsOf n r) (zero-add (length (spelling r))) }
+      go : (whole : Bool) → Unspelled whole kind domain bytes
+      go true = inr (inr (λ r′ o′ a. barred r′ [] o′ a))
+      go false = inr (inr barred)
 
-  pub rest-follows : (f : Facts) → 0 < length (drop (f .end) bytes) → ReadAt kind bytes 0 (Read.Found f) → Unspelled true kind bytes
+  -- what is found is allowed, past that
+  module _ (f : Facts) (short : length bytes ≤ textLimit) (valued : (domain ≡ 0) × (f .varies ≡ true) → ⊥) where
+    allowed : (r : Rule) → f ≡ factsOf domain (0 + length (spelling r)) r → Allowed domain r
+    allowed r e zero = no-truth (variesIn r) (λ v. valued (zero, ap (λ (g : Facts). g .varies) e ∙ v))
+
+    pub opens-part : ReadAt kind domain bytes 0 (Read.Found f) → Opening false kind domain bytes f
+    opens-part (r, rest, o, e) =
+        record { short = short; rule = r; spells = (rest, o); allowed = allowed r e; told = e ∙ ap (λ (n : ℕ). factsOf domain n r) (zero-add (length (spelling r))) }
+
+    -- where the unread part is empty, nothing follows the rule
+    pub opens-whole : length (drop (f .end) bytes) ≤ 0 → ReadAt kind domain bytes 0 (Read.Found f) → Opening true kind domain bytes f
+    opens-whole end (r, rest, o, e) =
+        let none = no-rest rest (omega (arith, end-is f r e, length-is r rest o, length-drop (f .end) bytes)) in
+        record { short = short; rule = r; spells = subst (Opens kind bytes r) none o; allowed = allowed r e; told = e ∙ ap (λ (n : ℕ). factsOf domain n r) (zero-add (length (spelling r))) }
+
+  pub rest-follows : (f : Facts) → 0 < length (drop (f .end) bytes) → ReadAt kind domain bytes 0 (Read.Found f) → Unspelled true kind domain bytes
   rest-follows f more (r, rest, o, e) =
-      inr (inr (λ r′ o′. absurd (omega (arith, more, end-is f r e, length-is r rest o, ap length (unique-reading o o′ .1), length-drop (f .end) bytes))))
+      inr (inr (λ r′ o′ a. absurd (omega (arith, more, end-is f r e, length-is r rest o, ap length (unique-reading o o′ .1), length-drop (f .end) bytes))))
 
 -- the bytes spell at most one rule
 spelled-once : (whole : Bool) (kind : Kind) (bytes : List ℕ) {r r′ : Rule} → Spelled whole kind bytes r → Spelled whole kind bytes r′ → r ≡ r′
@@ -89,16 +108,16 @@ spelled-once true kind bytes o o′ = unique-reading o o′ .0
 spelled-once false kind bytes o o′ = unique-reading (o .1) (o′ .1) .0
 
 no-rule-in-none : (kind : Kind) (bytes : List ℕ) (r : Rule) (rest : List ℕ) → Opens kind bytes r rest → bytes ≡ [] → ⊥
-no-rule-in-none kind bytes r rest o e = omega (arith, length-is kind bytes r rest o, ap length e, text-some r)
+no-rule-in-none kind bytes r rest o e = omega (arith, length-is kind 0 bytes r rest o, ap length e, text-some r)
 
--- where they spell one, refusal 6 does not apply
-spelled-no-six : (whole : Bool) (kind : Kind) (bytes : List ℕ) (f : Facts) → Opening whole kind bytes f → Unspelled whole kind bytes → ⊥
-spelled-no-six true kind bytes f o (inl e) = no-rule-in-none kind bytes (o .rule) [] (o .spells) e
-spelled-no-six true kind bytes f o (inr (inl l)) = omega (arith, o .short)
-spelled-no-six true kind bytes f o (inr (inr n)) = n (o .rule) (o .spells)
-spelled-no-six false kind bytes f o (inl e) = no-rule-in-none kind bytes (o .rule) (o .spells .0) (o .spells .1) e
-spelled-no-six false kind bytes f o (inr (inl l)) = omega (arith, o .short)
-spelled-no-six false kind bytes f o (inr (inr n)) = n (o .rule) (o .spells .0) (o .spells .1)
+-- where they spell one that is allowed, refusal 6 does not apply
+spelled-no-six : (whole : Bool) (kind : Kind) (domain : ℕ) (bytes : List ℕ) (f : Facts) → Opening whole kind domain bytes f → Unspelled whole kind domain bytes → ⊥
+spelled-no-six true kind domain bytes f o (inl e) = no-rule-in-none kind bytes (o .rule) [] (o .spells) e
+spelled-no-six true kind domain bytes f o (inr (inl l)) = omega (arith, o .short)
+spelled-no-six true kind domain bytes f o (inr (inr n)) = n (o .rule) (o .spells) (o .allowed)
+spelled-no-six false kind domain bytes f o (inl e) = no-rule-in-none kind bytes (o .rule) (o .spells .0) (o .spells .1) e
+spelled-no-six false kind domain bytes f o (inr (inl l)) = omega (arith, o .short)
+spelled-no-six false kind domain bytes f o (inr (inr n)) = n (o .rule) (o .spells .0) (o .spells .1) (o .allowed)
 
 module _ (whole : Bool) (kind : Kind) (bytes : List ℕ) where
   -- so a fault of a rule that they spell is a fault of this one
@@ -111,24 +130,34 @@ module _ (whole : Bool) (kind : Kind) (bytes : List ℕ) where
     pub counts-refused : CountsOut counts → SurveyedAs whole kind bytes counts (Surveyed.Refused Refusal.BadNumber)
     counts-refused h = here h
 
-    pub rule-refused : (CountsOut counts → ⊥) → Unspelled whole kind bytes → SurveyedAs whole kind bytes counts (Surveyed.Refused Refusal.BadRule)
+    pub rule-refused : (CountsOut counts → ⊥) → Unspelled whole kind (counts .domain) bytes → SurveyedAs whole kind bytes counts (Surveyed.Refused Refusal.BadRule)
     rule-refused n h = past n (here h)
 
     -- the rows that the facts decide are those of the rule that is spelled
+    abbrev names : Rule → Type 0
+    names = BadNames (counts .domain) (counts .fluents) (counts .actions)
+
     abbrev ruleFaults : List {1} Row
     ruleFaults =
-        (7 when With (Spelled whole kind bytes) (BadNames (counts .fluents) (counts .actions))) ∷ ((8 when With (Spelled whole kind bytes) TooDeep) ∷ ((9 when With (Spelled whole kind bytes) (BadJob kind)) ∷ []))
+        (7 when With (Spelled whole kind bytes) names)
+        ∷ ((8 when With (Spelled whole kind bytes) TooDeep)
+        ∷ ((9 when With (Spelled whole kind bytes) (BadJob kind)) ∷ ((13 when With (Spelled whole kind bytes) Unbound) ∷ [])))
 
-    rows-alike : (f : Facts) → Opening whole kind bytes f → Alike (factRows kind counts f) ruleFaults
+    rows-alike : (f : Facts) → Opening whole kind (counts .domain) bytes f → Alike (factRows kind counts f) ruleFaults
     rows-alike f o =
         subst⁻¹ (λ (x : Facts). Alike (factRows kind counts x) ruleFaults) (o .told)
-        (refl, with-fault (BadNames (counts .fluents) (counts .actions)) (o .spells), (refl, with-fault TooDeep (o .spells), (refl, with-fault (BadJob kind) (o .spells), tt)))
+        (refl, with-fault names (o .spells), (refl, with-fault TooDeep (o .spells), (refl, with-fault (BadJob kind) (o .spells), (refl, Iff·trans (some-free (o .rule)) (with-fault Unbound (o .spells)), tt))))
 
-    pub facts-judged : (f : Facts) (r : Surveyed) → (CountsOut counts → ⊥) → Opening whole kind bytes f → JudgedAs kind counts f r
+    pub facts-judged : (f : Facts) (r : Surveyed) → (CountsOut counts → ⊥) → Opening whole kind (counts .domain) bytes f → JudgedAs kind counts f r
         → SurveyedAs whole kind bytes counts r
-    facts-judged f (Surveyed.Refused why) n o h = past n (past (spelled-no-six whole kind bytes f o) (alike-refused (factRows kind counts f) ruleFaults (rows-alike f o) h))
-    facts-judged f (Surveyed.Fits g) n o h =
-        record { accepted = passes n (passes (spelled-no-six whole kind bytes f o) (alike-accepted (factRows kind counts f) ruleFaults (rows-alike f o) (h .1))); rule = o .rule; spells = o .spells; told = h .0 ∙ o .told }
+    facts-judged f (Surveyed.Refused why) n o h =
+        past n (past (spelled-no-six whole kind (counts .domain) bytes f o) (alike-refused (factRows kind counts f) ruleFaults (rows-alike f o) h))
+    facts-judged f (Surveyed.Fits g) n o h = record {
+      accepted = passes n (passes (spelled-no-six whole kind (counts .domain) bytes f o) (alike-accepted (factRows kind counts f) ruleFaults (rows-alike f o) (h .1)));
+      rule = o .rule;
+      spells = o .spells;
+      told = h .0 ∙ o .told;
+    }
 
 -- What the facts decide.
 module _ (kind : Kind) (counts : Counts) (f : Facts) where
@@ -146,11 +175,18 @@ module _ (kind : Kind) (counts : Counts) (f : Facts) where
       not-deep : depthLimit < f .depth → ⊥
       not-deep h = omega arith
 
-      pub judged-backward : kind ≡ jobKind → f .backward ≡ true → JudgedAs kind counts f (Surveyed.Refused Refusal.BackwardJob)
-      judged-backward k b = past names-known (past not-deep (here (k, b)))
+      pub judged-backward : (kind ≡ jobKind) × (f .backward ≡ true) → JudgedAs kind counts f (Surveyed.Refused Refusal.BackwardJob)
+      judged-backward b = past names-known (past not-deep (here b))
 
-      pub judged-fits : ((kind ≡ jobKind) × (f .backward ≡ true) → ⊥) → JudgedAs kind counts f (Surveyed.Fits f)
-      judged-fits n = (refl, passes names-known (passes not-deep (passes n accepts)))
+      -- nor a job with a backward sign
+      module _ (n : (kind ≡ jobKind) × (f .backward ≡ true) → ⊥) where
+        pub judged-unbound : 0 < f .free → JudgedAs kind counts f (Surveyed.Refused Refusal.Unbound)
+        judged-unbound h = past names-known (past not-deep (past n (here h)))
+
+        pub judged-fits : f .free ≤ 0 → JudgedAs kind counts f (Surveyed.Fits f)
+        judged-fits u =
+            let bound : 0 < f .free → ⊥ = λ h. omega arith in
+            (refl, passes names-known (passes not-deep (passes n (passes bound accepts))))
 
 -- only a job is a job
 pub test-no-job : testKind ≡ jobKind → ⊥
@@ -163,15 +199,15 @@ walk-no-job e = let z : _≡_ {A = ℕ} 0 1 = cc in omega arith
 pub from-is : (start : ℕ) (bytes : List ℕ) → bytesFrom start bytes ≡ drop start bytes
 from-is start bytes = take-all _ (drop start bytes) (le-of-eq (length-drop start bytes))
 
-pub found-inside : (kind : Kind) (bytes : List ℕ) (f : Facts) → ReadAt kind bytes 0 (Read.Found f) → f .end ≤ length bytes
-found-inside kind bytes f found = found-within kind bytes 0 f found .inside
+pub found-inside : (kind : Kind) (domain : ℕ) (bytes : List ℕ) (f : Facts) → ReadAt kind domain bytes 0 (Read.Found f) → f .end ≤ length bytes
+found-inside kind domain bytes f found = found-within kind domain bytes 0 f found .inside
 
 module _ (kind : Kind) (text : RefT (List ℕ)) (counts : Counts) (f : Facts) (fit : Fitting false kind (now text) counts f) where
   told-end : f .end ≡ length (spelling (fit .rule))
   told-end = ap (λ (g : Facts). g .end) (fit .told)
 
   pub ends-inside : f .end ≤ length (now text)
-  ends-inside = omega (arith, told-end, length-is kind (now text) (fit .rule) (fit .spells .0) (fit .spells .1))
+  ends-inside = omega (arith, told-end, length-is kind 0 (now text) (fit .rule) (fit .spells .0) (fit .spells .1))
 
   part-is : drop (f .end) (now text) ≡ fit .spells .0
   part-is =
@@ -190,48 +226,60 @@ module _ (kind : Kind) (text : RefT (List ℕ)) (counts : Counts) (f : Facts) (f
         };
       })
 
--- What an accepted list tells: the text is short and spells a rule, whose names the theory knows, which is no deeper than the limit, and as a job has no
--- backward sign outside a `<` walk.
+-- What an accepted list tells: the text is short and spells a rule, which has no variables if those have no values, whose names the theory knows, which is
+-- no deeper than the limit, as a job has no backward sign outside a `<` walk, and in which no variable stands free.
 pub record Known (whole : Bool) (kind : Kind) (bytes : List ℕ) (counts : Counts) : Type 0 where
   pub rule : Rule
   pub spells : Spelled whole kind bytes rule
   pub short : length bytes ≤ textLimit
-  pub knownActions : actionsIn rule ≤ counts .actions
-  pub knownFluents : fluentsIn rule ≤ counts .fluents
+  pub allowed : Allowed (counts .domain) rule
+  pub knownActions : actionsIn (counts .domain) rule ≤ counts .actions
+  pub knownFluents : fluentsIn (counts .domain) rule ≤ counts .fluents
   pub shallow : depth rule ≤ depthLimit
   pub onward : kind ≡ jobKind → backwardIn rule ≡ true → ⊥
+  pub bound : (v : Variable) → freeIn v rule ≡ true → ⊥
 
--- where no refusal 6 is given, a rule is spelled
-spelled-whole : (kind : Kind) (bytes : List ℕ) → (Unspelled true kind bytes → ⊥) → (r : Rule) × Opens kind bytes r []
-spelled-whole kind bytes n = ⊎-elim (λ (r, rest, o). go r rest o) (λ none. absurd (n (inr (inr (λ r o. none r [] o))))) (opens? kind bytes)
-  where
-    go : (r : Rule) (rest : List ℕ) → Opens kind bytes r rest → (r : Rule) × Opens kind bytes r []
-    go r [] o = (r, o)
-    go r (b ∷ rest) o = absurd (n (inr (inr (λ r′ o′. cons≢nil (unique-reading o o′ .1)))))
+-- where no refusal 6 is given, a rule is spelled, and it is allowed
+module _ (kind : Kind) (domain : ℕ) (bytes : List ℕ) where
+  spelled-whole : (Unspelled true kind domain bytes → ⊥) → (r : Rule) × Opens kind bytes r []
+  spelled-whole n = ⊎-elim (λ (r, rest, o). go r rest o) (λ none. absurd (n (inr (inr (λ r o a. none r [] o))))) (opens? kind bytes)
+    where
+      go : (r : Rule) (rest : List ℕ) → Opens kind bytes r rest → (r : Rule) × Opens kind bytes r []
+      go r [] o = (r, o)
+      go r (b ∷ rest) o = absurd (n (inr (inr (λ r′ o′ a. cons≢nil (unique-reading o o′ .1)))))
 
-spelled-part : (kind : Kind) (bytes : List ℕ) → (Unspelled false kind bytes → ⊥) → (r : Rule) × Spelled false kind bytes r
-spelled-part kind bytes n = ⊎-elim (λ (r, rest, o). (r, (rest, o))) (λ none. absurd (n (inr (inr none)))) (opens? kind bytes)
+  spelled-part : (Unspelled false kind domain bytes → ⊥) → (r : Rule) × Spelled false kind bytes r
+  spelled-part n = ⊎-elim (λ (r, rest, o). (r, (rest, o))) (λ none. absurd (n (inr (inr (λ r rest o a. none r rest o))))) (opens? kind bytes)
 
-spelled-some : (whole : Bool) (kind : Kind) (bytes : List ℕ) → (Unspelled whole kind bytes → ⊥) → (r : Rule) × Spelled whole kind bytes r
-spelled-some true kind bytes n = spelled-whole kind bytes n
-spelled-some false kind bytes n = spelled-part kind bytes n
+  spelled-some : (whole : Bool) → (Unspelled whole kind domain bytes → ⊥) → (r : Rule) × Spelled whole kind bytes r
+  spelled-some true n = spelled-whole n
+  spelled-some false n = spelled-part n
+
+  spelled-allowed : (whole : Bool) (r : Rule) → Spelled whole kind bytes r → (Unspelled whole kind domain bytes → ⊥) → Allowed domain r
+  spelled-allowed true r o n zero =
+      no-truth (variesIn r) (λ v. n (inr (inr (λ r′ o′ a. off-on (a zero) (ap variesIn (sym (unique-reading o o′ .0)) ∙ v)))))
+  spelled-allowed false r (rest, o) n zero =
+      no-truth (variesIn r) (λ v. n (inr (inr (λ r′ rest′ o′ a. off-on (a zero) (ap variesIn (sym (unique-reading o o′ .0)) ∙ v)))))
 
 pub accepted-known : (whole : Bool) (kind : Kind) (bytes : List ℕ) (counts : Counts) → Accepted (textRows whole kind bytes counts) → Known whole kind bytes counts
-accepted-known whole kind bytes counts (six, (names, (deep, (turned, rest)))) =
-    let (r, s) = spelled-some whole kind bytes six in
+accepted-known whole kind bytes counts (six, (names, (deep, (turned, (unbound, rest))))) =
+    let (r, s) = spelled-some kind (counts .domain) bytes whole six in
+    let lacks = BadNames (counts .domain) (counts .fluents) (counts .actions) in
     let with : (fault : Rule → Type 0) → fault r → With (Spelled whole kind bytes) fault = λ fault h. record { rule = r; spells = s; faulty = h } in
-    let long : ¬ (textLimit < length bytes) = λ l. six (too-long kind bytes whole l) in
-    let lacks-action : ¬ (counts .actions < actionsIn r) = λ h. names (with (BadNames (counts .fluents) (counts .actions)) (inl h)) in
-    let lacks-fluent : ¬ (counts .fluents < fluentsIn r) = λ h. names (with (BadNames (counts .fluents) (counts .actions)) (inr h)) in
+    let long : ¬ (textLimit < length bytes) = λ l. six (too-long kind (counts .domain) bytes whole l) in
+    let lacks-action : ¬ (counts .actions < actionsIn (counts .domain) r) = λ h. names (with lacks (inl h)) in
+    let lacks-fluent : ¬ (counts .fluents < fluentsIn (counts .domain) r) = λ h. names (with lacks (inr h)) in
     let shallow : ¬ TooDeep r = λ h. deep (with TooDeep h) in
     record {
       rule = r;
       spells = s;
       short = omega arith;
+      allowed = spelled-allowed kind (counts .domain) bytes whole r s six;
       knownActions = omega arith;
       knownFluents = omega arith;
       shallow = omega arith;
       onward = λ k b. turned (with (BadJob kind) (k, b));
+      bound = λ v f. unbound (with Unbound (record { variable = v; free = f }));
     }
 
 -- The contracts leave one outcome. Of `read_rule`: two numbers are equal, and two parts are the same stretch of memory with the same bytes.

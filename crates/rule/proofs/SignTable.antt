@@ -11,7 +11,7 @@ use denote.Enum.Declared.{tagOf}
 use native.Mathlib.Omega.{arith}
 use borrow.Author.Tests.{eqb-true, eqb-false, ne-eqb, leb-false, ltb-false}
 use Rattle.rule.specs.declared.signs.Sign.{Sign}
-use Rattle.rule.specs.declared.signs.Sign.the-variants.{Step, NamedStep, OverWalk, OverTest, TwoWalks, Constant, NamedFluent, Denial, TwoTests, WalkThenTest, Stranger}
+use Rattle.rule.specs.declared.signs.Sign.the-variants.{Step, NamedStep, OverWalk, OverTest, TwoWalks, Constant, NamedFluent, Denial, TwoTests, WalkThenTest, SumStep, SomeWalk, SumFluent, SomeTest, Stranger}
 use Rattle.rule.specs.Signs.{Entry, lookUp, signTable, signOf}
 use Rattle.rule.proofs.signs.Sign.{the-type}
 
@@ -36,6 +36,11 @@ pub data SignIs : ℕ → Sign → Type 0 where
   neg-sign : SignIs 33 Denial
   both-sign : SignIs 38 TwoTests
   diamond-sign : SignIs 60 WalkThenTest
+  sum-act-sign : SignIs 98 SumStep
+  sum-undo-sign : SignIs 115 SumStep
+  pick-sign : SignIs 112 SomeWalk
+  sum-fluent-sign : SignIs 103 SumFluent
+  exists-sign : SignIs 101 SomeTest
   no-sign : (b : ℕ) → Strange signTable b → SignIs b Stranger
 
 abbrev Each : List Entry → Type 0
@@ -54,7 +59,7 @@ signs : (b : ℕ) → SignIs b (signOf b)
 unfolding signOf
 signs b =
     looked-up signTable b
-    (act-sign, (undo-sign, (next-sign, (prev-sign, (seq-sign, (alt-sign, (star-sign, (conv-sign, (check-sign, (always-sign, (fluent-sign, (neg-sign, (both-sign, (diamond-sign, tt))))))))))))))
+    (act-sign, (undo-sign, (next-sign, (prev-sign, (seq-sign, (alt-sign, (star-sign, (conv-sign, (check-sign, (always-sign, (fluent-sign, (neg-sign, (both-sign, (diamond-sign, (sum-act-sign, (sum-undo-sign, (pick-sign, (sum-fluent-sign, (exists-sign, tt)))))))))))))))))))
     (no-sign b)
 
 pub sign-is : {b : ℕ} {s : Sign} → s ≡ signOf b → SignIs b s
@@ -99,7 +104,7 @@ stranger lo hi b l h a = apart-from-all lo hi signTable b l h a
 -- An arm of a match that takes several signs is told the place of its sign among all.
 abbrev signAt : ℕ → Sign
 signAt k =
-    getD (Step ∷ (NamedStep ∷ (OverWalk ∷ (OverTest ∷ (TwoWalks ∷ (Constant ∷ (NamedFluent ∷ (Denial ∷ (TwoTests ∷ (WalkThenTest ∷ (Stranger ∷ []))))))))))) k Stranger
+    getD (Step ∷ (NamedStep ∷ (OverWalk ∷ (OverTest ∷ (TwoWalks ∷ (Constant ∷ (NamedFluent ∷ (Denial ∷ (TwoTests ∷ (WalkThenTest ∷ (SumStep ∷ (SomeWalk ∷ (SumFluent ∷ (SomeTest ∷ (Stranger ∷ []))))))))))))))) k Stranger
 
 at-its-place : (s : Sign) → signAt (tagOf the-type s) ≡ s
 at-its-place Step = refl
@@ -112,6 +117,10 @@ at-its-place NamedFluent = refl
 at-its-place Denial = refl
 at-its-place TwoTests = refl
 at-its-place WalkThenTest = refl
+at-its-place SumStep = refl
+at-its-place SomeWalk = refl
+at-its-place SumFluent = refl
+at-its-place SomeTest = refl
 at-its-place Stranger = refl
 
 abbrev AllAt : (Sign → Type 0) → List ℕ → Type 0

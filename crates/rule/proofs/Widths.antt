@@ -8,13 +8,13 @@ use native.Mathlib.Decide.{decLe, decLt, ℕ-discrete}
 use lib.ListN.{length, drop, getD, set, replicate, length-drop, length-append, length-set, length-replicate}
 use lib.Seq.{drop-drop, drop-length, drop-append-seam, getD-set-same, getD-set-other, ext-getD}
 use Rattle.meaning.specs.Limits.{textLimit}
-use Rattle.meaning.specs.Rule.{Walk, Test, act, undo, next, prev, seq, alt, star, check, conv, always, fluent, neg, both, diamond, walkText, testText, ofTest, ofWalk, text}
+use Rattle.meaning.specs.Rule.{Walk, Test, act, undo, next, prev, seq, alt, star, check, conv, pick, always, fluent, neg, both, diamond, exists, Variable, plain, plus, letter, walkText, testText, ofTest, ofWalk, text}
 use Rattle.meaning.specs.Rule as meaning
 use Rattle.rule.specs.declared.signs.Sign.{Sign}
-use Rattle.rule.specs.declared.signs.Sign.the-variants.{Step, NamedStep, OverWalk, OverTest, TwoWalks, Constant, NamedFluent, Denial, TwoTests, WalkThenTest, Stranger}
+use Rattle.rule.specs.declared.signs.Sign.the-variants.{Step, NamedStep, OverWalk, OverTest, TwoWalks, Constant, NamedFluent, Denial, TwoTests, WalkThenTest, SumStep, SomeWalk, SumFluent, SomeTest, Stranger}
 use Rattle.rule.specs.Signs.{signOf}
 use Rattle.rule.specs.Standing.{Stands, Ends}
-use Rattle.rule.specs.Ends.{oneRule, twoRules, widthBy, widths, endAt, TableFrom, Filled, FillOutcome}
+use Rattle.rule.specs.Ends.{oneRule, twoRules, letterAndRule, widthBy, widths, endAt, TableFrom, Filled, FillOutcome}
 use Rattle.spelling.proofs.TwoDigits.{here}
 use Rattle.rule.proofs.Answers.{text-some}
 
@@ -47,18 +47,25 @@ widths-inside (b ∷ l) zero h = go (signOf b) (widths-inside l 0 (omega arith))
     go Denial one two = omega arith
     go TwoTests one two = omega (arith, two (omega arith))
     go WalkThenTest one two = omega (arith, two (omega arith))
+    go SumStep one two = omega arith
+    go SomeWalk one two = omega arith
+    go SumFluent one two = omega arith
+    go SomeTest one two = omega arith
     go Stranger one two = omega arith
 widths-inside (b ∷ l) (suc n) h = omega (arith, widths-inside l n (omega arith))
 
--- How wide a sign is, with what follows it: alone, with a number, over one rule, over two.
+-- How wide a sign is, with what follows it: alone, with so many bytes, over one rule, over one behind a letter, over two.
 abbrev pub Alone : Sign → Type 0
 Alone s = (left : ℕ) (after : List ℕ) → widthBy s left after ≡ 1
 
-abbrev pub Named : Sign → Type 0
-Named s = (left : ℕ) (after : List ℕ) → widthBy s left after ≡ min 3 left
+abbrev pub Named : ℕ → Sign → Type 0
+Named many s = (left : ℕ) (after : List ℕ) → widthBy s left after ≡ min many left
 
 abbrev pub OverOne : Sign → Type 0
 OverOne s = (left : ℕ) (after : List ℕ) → widthBy s left after ≡ oneRule after
+
+abbrev pub OverLettered : Sign → Type 0
+OverLettered s = (left : ℕ) (after : List ℕ) → widthBy s left after ≡ letterAndRule left after
 
 abbrev pub OverTwo : Sign → Type 0
 OverTwo s = (left : ℕ) (after : List ℕ) → widthBy s left after ≡ twoRules after
@@ -82,11 +89,20 @@ module _ (bytes : List ℕ) (at : ℕ) where
     pub end-leaf : Alone s → at + 1 ≡ endAt bytes at
     end-leaf w = omega (arith, end-by, w left after)
 
-    pub end-digits : Named s → at + 3 ≤ length bytes → at + 3 ≡ endAt bytes at
-    end-digits w l = omega (arith, end-by, w left after, length-drop (at + 1) bytes)
+    pub end-digits : (many : ℕ) → Named many s → at + min many (length bytes - at) ≡ endAt bytes at
+    end-digits many w = omega (arith, end-by, w left after, length-drop (at + 1) bytes)
 
-    pub end-cut : Named s → length bytes < at + 3 → length bytes ≡ endAt bytes at
+    pub end-cut : OverLettered s → length bytes < at + 2 → length bytes ≡ endAt bytes at
     end-cut w l = omega (arith, end-by, w left after, length-drop (at + 1) bytes)
+
+    -- behind a letter
+    end-lettered : OverLettered s → at + 2 ≤ length bytes → endAt bytes (at + 2) ≡ endAt bytes at
+    end-lettered w l =
+        let rest = drop (at + 1) bytes in
+        let same : at + 2 ≡ at + 1 + 1 = omega arith in
+        let there : drop (at + 2) bytes ≡ drop 1 rest = ap (λ (k : ℕ). drop k bytes) same ∙ sym (drop-drop 1 (at + 1) bytes) in
+        let second : width (drop (at + 2) bytes) ≡ getD (widths rest) 1 0 = ap width there ∙ sym (width-drop rest 1 (omega (arith, length-drop (at + 1) bytes))) in
+        omega (arith, second, end-by, w left after, length-drop (at + 1) bytes, widths-inside rest 1 (omega (arith, length-drop (at + 1) bytes)))
 
     end-rule : OverOne s → endAt bytes (at + 1) ≡ endAt bytes at
     end-rule w = omega (arith, end-by, w left after)
@@ -108,6 +124,9 @@ module _ (bytes ends : List ℕ) (at : ℕ) (t : TableFrom bytes ends at) where
     pub table-rule : OverOne s → getD ends (at + 1) 0 ≡ endAt bytes at
     table-rule w = t .told (at + 1) (omega arith) (omega (arith, t .inside)) ∙ end-rule bytes at (t .inside) s e w
 
+    pub table-lettered : OverLettered s → at + 2 ≤ length bytes → getD ends (at + 2) 0 ≡ endAt bytes at
+    table-lettered w l = t .told (at + 2) (omega arith) l ∙ end-lettered bytes at (t .inside) s e w l
+
     pub table-rules : OverTwo s → getD ends (getD ends (at + 1) 0) 0 ≡ endAt bytes at
     table-rules w =
         let middle = t .told (at + 1) (omega arith) (omega (arith, t .inside)) in
@@ -117,6 +136,12 @@ module _ (bytes ends : List ℕ) (at : ℕ) (t : TableFrom bytes ends at) where
 one-wide : (b : ℕ) (x rest : List ℕ) → OverOne (signOf b) → width (x ++ rest) ≡ length x → width (b ∷ (x ++ rest)) ≡ suc (length x)
 unfolding widths
 one-wide b x rest w e = w (suc (length (x ++ rest))) (widths (x ++ rest)) ∙ omega arith
+
+lettered-wide : (b : ℕ) (v : Variable) (x rest : List ℕ) → OverLettered (signOf b) → width (x ++ rest) ≡ length x
+    → width (b ∷ (letter v ∷ (x ++ rest))) ≡ suc (suc (length x))
+unfolding widths
+lettered-wide b v x rest w e =
+    w (suc (suc (length (x ++ rest)))) (widths (letter v ∷ (x ++ rest))) ∙ omega (arith, length-append x rest)
 
 two-wide : (b : ℕ) (x y rest : List ℕ) → OverTwo (signOf b) → width (x ++ (y ++ rest)) ≡ length x → width (y ++ rest) ≡ length y
     → width (b ∷ ((x ++ y) ++ rest)) ≡ suc (length (x ++ y))
@@ -134,8 +159,10 @@ mutual
   unfolding walkText widths signOf
 
   walk-wide : (w : Walk) (rest : List ℕ) → width (walkText w ++ rest) ≡ length (walkText w)
-  walk-wide (act a) rest = omega arith
-  walk-wide (undo a) rest = omega arith
+  walk-wide (act (plain a)) rest = omega arith
+  walk-wide (act (plus a v)) rest = omega arith
+  walk-wide (undo (plain a)) rest = omega arith
+  walk-wide (undo (plus a v)) rest = omega arith
   walk-wide next rest = refl
   walk-wide prev rest = refl
   walk-wide (seq v w) rest = two-wide 59 (walkText v) (walkText w) rest (λ l a. refl) (walk-wide v (walkText w ++ rest)) (walk-wide w rest)
@@ -143,13 +170,16 @@ mutual
   walk-wide (star w) rest = one-wide 42 (walkText w) rest (λ l a. refl) (walk-wide w rest)
   walk-wide (check t) rest = one-wide 63 (testText t) rest (λ l a. refl) (test-wide t rest)
   walk-wide (conv w) rest = one-wide 45 (walkText w) rest (λ l a. refl) (walk-wide w rest)
+  walk-wide (pick v w) rest = lettered-wide 112 v (walkText w) rest (λ l a. refl) (walk-wide w rest)
 
   test-wide : (t : Test) (rest : List ℕ) → width (testText t ++ rest) ≡ length (testText t)
   test-wide always rest = refl
-  test-wide (fluent i) rest = omega arith
+  test-wide (fluent (plain i)) rest = omega arith
+  test-wide (fluent (plus i v)) rest = omega arith
   test-wide (neg t) rest = one-wide 33 (testText t) rest (λ l a. refl) (test-wide t rest)
   test-wide (both t u) rest = two-wide 38 (testText t) (testText u) rest (λ l a. refl) (test-wide t (testText u ++ rest)) (test-wide u rest)
   test-wide (diamond w t) rest = two-wide 60 (walkText w) (testText t) rest (λ l a. refl) (walk-wide w (testText t ++ rest)) (test-wide t rest)
+  test-wide (exists v t) rest = lettered-wide 101 v (testText t) rest (λ l a. refl) (test-wide t rest)
 
 pub walk-end : (bytes : List ℕ) (at : ℕ) (w : Walk) (rest : List ℕ) → drop at bytes ≡ walkText w ++ rest → endAt bytes at ≡ at + length (walkText w)
 walk-end bytes at w rest e = ap (λ (l : List ℕ). at + width l) e ∙ ap (λ (n : ℕ). at + n) (walk-wide w rest)

@@ -6,15 +6,19 @@ use Prim.Native.Nat.{ℕ, suc, _+_, _≤_, _<_, min}
 use lib.ListN.{length, drop, getD}
 use Rattle.meaning.specs.Limits.{textLimit}
 use Rattle.rule.specs.declared.signs.Sign.{Sign}
-use Rattle.rule.specs.declared.signs.Sign.the-variants.{Step, NamedStep, OverWalk, OverTest, TwoWalks, Constant, NamedFluent, Denial, TwoTests, WalkThenTest, Stranger}
+use Rattle.rule.specs.declared.signs.Sign.the-variants.{Step, NamedStep, OverWalk, OverTest, TwoWalks, Constant, NamedFluent, Denial, TwoTests, WalkThenTest, SumStep, SomeWalk, SumFluent, SomeTest, Stranger}
 use Rattle.rule.specs.Signs.{signOf}
 
--- the width of what stands at the front of so many bytes, by its sign and by the widths from the next place on: alone, with a number, over one rule or two
+-- the width of what stands at the front of so many bytes, by its sign and by the widths from the next place on: alone, with a number, with a letter behind
+-- that, over one rule or two, or over one behind a letter
 abbrev pub oneRule : List ℕ → ℕ
 oneRule after = 1 + getD after 0 0
 
 abbrev pub twoRules : List ℕ → ℕ
 twoRules after = 1 + getD after 0 0 + getD after (getD after 0 0) 0
+
+abbrev pub letterAndRule : ℕ → List ℕ → ℕ
+letterAndRule left after = min (2 + getD after 1 0) left
 
 abbrev pub widthBy : Sign → ℕ → List ℕ → ℕ
 widthBy Step left after = 1
@@ -27,6 +31,10 @@ widthBy NamedFluent left after = min 3 left
 widthBy Denial left after = oneRule after
 widthBy TwoTests left after = twoRules after
 widthBy WalkThenTest left after = twoRules after
+widthBy SumStep left after = min 4 left
+widthBy SomeWalk left after = letterAndRule left after
+widthBy SumFluent left after = min 4 left
+widthBy SomeTest left after = letterAndRule left after
 widthBy Stranger left after = 1
 
 -- the width at each place of a list, and 0 at its end

@@ -1,4 +1,5 @@
 pub mod Signs
+pub mod Letters
 pub mod Facts
 pub mod Read
 pub mod Outcome

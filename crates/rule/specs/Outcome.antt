@@ -7,7 +7,7 @@ use lib.ListN.{length, take, drop}
 use denote.Ref.{RefT, now}
 use Rattle.meaning.specs.Rule.{testKind, walkKind, jobKind, Rule, Opens, text as spelling}
 use Rattle.meaning.specs.Rule as meaning
-use Rattle.meaning.specs.Refusal.{Row, _when_, Answered, BadRule, BadOpening, BadNames, TooDeep, BadJob}
+use Rattle.meaning.specs.Refusal.{Row, _when_, Answered, BadRule, BadOpening, BadNames, TooDeep, BadJob, Unbound}
 use Rattle.theory.specs.declared.Counts.{Counts}
 use Rattle.theory.specs.Rows.{CountsOut}
 use Rattle.rule.specs.declared.Kind.{Kind}
@@ -22,10 +22,10 @@ abbrev pub Spelled : Bool → meaning.Kind → List ℕ → Rule → Type 0
 Spelled true kind bytes rule = Opens kind bytes rule []
 Spelled false kind bytes rule = (rest : List ℕ) × Opens kind bytes rule rest
 
--- refusal 6, of the whole and with a rest
-abbrev pub Unspelled : Bool → meaning.Kind → List ℕ → Type 0
-Unspelled true kind bytes = BadRule kind bytes
-Unspelled false kind bytes = BadOpening kind bytes
+-- refusal 6, of the whole and with a rest, where a variable has so many values
+abbrev pub Unspelled : Bool → meaning.Kind → ℕ → List ℕ → Type 0
+Unspelled true kind domain bytes = BadRule domain kind bytes
+Unspelled false kind domain bytes = BadOpening domain kind bytes
 
 -- a rule that the bytes spell has this fault
 pub record With (spelled fault : Rule → Type 0) : Type 0 where
@@ -33,13 +33,14 @@ pub record With (spelled fault : Rule → Type 0) : Type 0 where
   pub spells : spelled rule
   pub faulty : fault rule
 
--- the rows of a rule's text; 7, 8 and 9 are of the rule that it spells, and 9 of a job alone
+-- the rows of a rule's text; 7, 8, 9 and 13 are of the rule that it spells, and 9 of a job alone; 13 stands "between 9 and 10"
 abbrev pub textRows : Bool → meaning.Kind → List ℕ → Counts → List {1} Row
 textRows whole kind bytes counts =
-    (6 when Unspelled whole kind bytes)
-    ∷ (7 when With (Spelled whole kind bytes) (BadNames (counts .fluents) (counts .actions)))
+    (6 when Unspelled whole kind (counts .domain) bytes)
+    ∷ (7 when With (Spelled whole kind bytes) (BadNames (counts .domain) (counts .fluents) (counts .actions)))
     ∷ (8 when With (Spelled whole kind bytes) TooDeep)
     ∷ (9 when With (Spelled whole kind bytes) (BadJob kind))
+    ∷ (13 when With (Spelled whole kind bytes) Unbound)
     ∷ []
 
 -- the rows of a call that reads a rule

@@ -1,7 +1,7 @@
 // Where each rule of a text ends: a byte for each place, filled from the right. Whoever has read a rule finds by it where a second part begins.
 ghost use mathlib.Core.Path.{_≡_};
-ghost use Prim.Native.Nat.{_+_, _≤_};
-ghost use lib.ListN.{getD};
+ghost use Prim.Native.Nat.{_+_, _-_, _≤_, _<_, min};
+ghost use lib.ListN.{length, getD};
 ghost use Rattle.meaning.specs.Limits.{textLimit};
 ghost use Rattle.rule.specs.Ends.{TableFrom, endAt, FillOutcome};
 use crate::TEXT_LIMIT;
@@ -11,7 +11,20 @@ use crate::signs::sign_of;
 // A table of a whole text: a byte for each place, and for the end.
 pub const ENDS_ROOM: usize = TEXT_LIMIT + 1;
 
-// Where the rule at a place ends, by the ends of those after it. What is no sign ends after itself, a number at the text's end at the latest.
+// So many bytes on, or at the text's end.
+fn within(text: &[u8], at: usize, width: usize) -> u8
+    requires { ⌜ (at < length (now text)) × (length (now text) ≤ textLimit) ⌝ }
+    ensures { λ r. ⌜ r ≡ at + min width (length (now (text .entry)) - at) ⌝ }
+{
+    let left = text.len() - at;
+    if left < width {
+        text.len() as u8
+    } else {
+        (at + width) as u8
+    }
+}
+
+// Where the rule at a place ends, by the ends of those after it. What is no sign ends after itself, a number and a letter at the text's end at the latest.
 fn end_at(text: &[u8], ends: &[u8], at: usize) -> u8
     requires { ⌜ TableFrom (now text) (now ends) at ⌝ }
     ensures { λ r. ⌜ r ≡ endAt (now (text .entry)) at ⌝ }
@@ -19,15 +32,17 @@ fn end_at(text: &[u8], ends: &[u8], at: usize) -> u8
     let next = at + 1;
     match sign_of(text[at]) {
         Sign::Step | Sign::Constant | Sign::Stranger => next as u8,
-        Sign::NamedStep | Sign::NamedFluent => {
+        Sign::NamedStep | Sign::NamedFluent => within(text, at, 3),
+        Sign::SumStep | Sign::SumFluent => within(text, at, 4),
+        Sign::OverWalk | Sign::OverTest | Sign::Denial => ends[next],
+        Sign::SomeWalk | Sign::SomeTest => {
             let left = text.len() - at;
-            if left < 3 {
+            if left < 2 {
                 text.len() as u8
             } else {
-                (at + 3) as u8
+                ends[at + 2]
             }
         }
-        Sign::OverWalk | Sign::OverTest | Sign::Denial => ends[next],
         Sign::TwoWalks | Sign::TwoTests | Sign::WalkThenTest => {
             let middle = ends[next] as usize;
             ends[middle]

@@ -1,8 +1,12 @@
 // Which refusal a rule is given: the counts, then the reading, then what the rule's facts decide. Knows document 01's limits.
+ghost use mathlib.Core.Path.{_≡_};
+ghost use mathlib.Core.Logic.{_↔_};
+ghost use mathlib.Core.Bool.{true};
 ghost use mathlib.Core.List.{[]};
 ghost use Prim.Native.Nat.{_≤_};
 ghost use lib.ListN.{length};
-ghost use Rattle.meaning.specs.Limits.{textLimit};
+ghost use Rattle.meaning.specs.Limits.{textLimit, domainLimit};
+ghost use Rattle.meaning.specs.Rule.{jobKind};
 ghost use Rattle.rule.specs.Read.{ReadAt};
 ghost use Rattle.rule.specs.Outcome.{kindOf, bytesFrom, PartAt};
 ghost use Rattle.rule.specs.Judged.{OpenedAs, JudgedAs, SurveyedAs};
@@ -24,14 +28,14 @@ pub enum Surveyed {
 }
 
 // A job is read as a walk is.
-fn read_kind(text: &[u8], kind: Kind) -> Read
-    requires { ⌜ length (now text) ≤ textLimit ⌝ }
-    ensures { λ r. ⌜ ReadAt (kindOf kind) (now (text .entry)) 0 r ⌝ }
+fn read_kind(text: &[u8], kind: Kind, domain: usize) -> Read
+    requires { ⌜ (length (now text) ≤ textLimit) × (domain ≤ domainLimit) ⌝ }
+    ensures { λ r. ⌜ ReadAt (kindOf kind) domain (now (text .entry)) 0 r ⌝ }
 {
     match kind {
-        Kind::Test => read_test(text, 0),
-        Kind::Walk => read_walk(text, 0),
-        Kind::Job => read_walk(text, 0),
+        Kind::Test => read_test(text, 0, domain),
+        Kind::Walk => read_walk(text, 0, domain),
+        Kind::Job => read_walk(text, 0, domain),
     }
 }
 
@@ -51,16 +55,30 @@ pub(crate) fn nothing<'a>(text: &'a [u8]) -> &'a [u8]
     &text[..0]
 }
 
+// "6 for the new signs in .. domain 0": a sign of variables stands where a variable has no value.
+fn barred(f: Facts, domain: usize) -> bool
+    ensures { λ r. ⌜ (r ≡ true) ↔ ((domain ≡ 0) × (f .varies ≡ true)) ⌝ }
+{
+    if 0 < domain {
+        return false;
+    }
+    f.varies
+}
+
 // The rule that opens the text; with `whole`, it fits only when the unread part is empty.
-fn opening(text: &[u8], kind: Kind, whole: bool) -> Read
-    ensures { λ r. ⌜ OpenedAs whole (kindOf kind) (now (text .entry)) r ⌝ }
+fn opening(text: &[u8], kind: Kind, domain: usize, whole: bool) -> Read
+    requires { ⌜ domain ≤ domainLimit ⌝ }
+    ensures { λ r. ⌜ OpenedAs whole (kindOf kind) domain (now (text .entry)) r ⌝ }
 {
     if TEXT_LIMIT < text.len() {
         return Read::Refused;
     }
-    match read_kind(text, kind) {
+    match read_kind(text, kind, domain) {
         Read::Refused => Read::Refused,
         Read::Found(f) => {
+            if barred(f, domain) {
+                return Read::Refused;
+            }
             let rest = unread(text, f);
             if whole {
                 if 0 < rest.len() {
@@ -72,7 +90,18 @@ fn opening(text: &[u8], kind: Kind, whole: bool) -> Read
     }
 }
 
-// Refusals 7, 8 and 9: what the facts of a rule decide, smallest number first.
+// A job with a backward sign outside every `<` walk.
+fn turned(f: Facts, kind: Kind) -> bool
+    ensures { λ r. ⌜ (r ≡ true) ↔ ((kindOf kind ≡ jobKind) × (f .backward ≡ true)) ⌝ }
+{
+    match kind {
+        Kind::Job => f.backward,
+        Kind::Test => false,
+        Kind::Walk => false,
+    }
+}
+
+// Refusals 7, 8, 9 and 13: what the facts of a rule decide, smallest number first.
 fn judge(f: Facts, kind: Kind, counts: Counts) -> Surveyed
     ensures { λ r. ⌜ JudgedAs (kindOf kind) counts f r ⌝ }
 {
@@ -87,17 +116,13 @@ fn judge(f: Facts, kind: Kind, counts: Counts) -> Surveyed
     if PositionSet::DEPTH_LIMIT < f.depth as usize {
         return Surveyed::Refused(Refusal::TooDeep);
     }
-    match kind {
-        Kind::Job => {
-            if f.backward {
-                Surveyed::Refused(Refusal::BackwardJob)
-            } else {
-                Surveyed::Fits(f)
-            }
-        }
-        Kind::Test => Surveyed::Fits(f),
-        Kind::Walk => Surveyed::Fits(f),
+    if turned(f, kind) {
+        return Surveyed::Refused(Refusal::BackwardJob);
     }
+    if 0 < f.free {
+        return Surveyed::Refused(Refusal::Unbound);
+    }
+    Surveyed::Fits(f)
 }
 
 // All checks of a rule in the order of their numbers; with `whole`, nothing may follow the rule.
@@ -107,7 +132,8 @@ pub(crate) fn survey(text: &[u8], kind: Kind, counts: Counts, whole: bool) -> Su
     if bad_counts(counts) {
         return Surveyed::Refused(Refusal::BadNumber);
     }
-    match opening(text, kind, whole) {
+    let domain = counts.domain;
+    match opening(text, kind, domain, whole) {
         Read::Refused => Surveyed::Refused(Refusal::BadRule),
         Read::Found(f) => judge(f, kind, counts),
     }

@@ -4,6 +4,7 @@ ghost use Rattle.theory.specs.Check.{Settled};
 ghost use Rattle.rule.specs.Outcome.{kindOf, ruleRows, ReadAnswered};
 
 pub mod signs; // signs.rt: the table of signs
+pub mod letters; // letters.rt: the letters of variables
 mod answer; // answer.rt: the facts of a rule
 mod reader; // reader.rt: a walk's reader and a test's
 mod judge; // judge.rt: which refusal a rule is given

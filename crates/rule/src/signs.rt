@@ -3,7 +3,7 @@ ghost use mathlib.Core.Path.{_≡_};
 ghost use Prim.Native.Nat.{_≤_, _<_};
 ghost use Rattle.rule.specs.Signs.{signOf, turnsBack};
 
-// A byte as a sign, by what follows it: five of a walk, five of a test. No byte is a sign of both.
+// A byte as a sign, by what follows it: seven of a walk, seven of a test. No byte is a sign of both, and a variable's letter is none.
 pub enum Sign {
     // n, u
     Step,
@@ -25,6 +25,14 @@ pub enum Sign {
     TwoTests,
     // <WT
     WalkThenTest,
+    // bNNv, sNNv
+    SumStep,
+    // pvW
+    SomeWalk,
+    // gNNv
+    SumFluent,
+    // evT
+    SomeTest,
     // no sign at all: refusal 6
     Stranger,
 }
@@ -57,33 +65,38 @@ fn minus_to_question(byte: u8) -> Sign
     }
 }
 
-// .. from there to below `r` (114), ..
-fn a_to_n(byte: u8) -> Sign
-    requires { ⌜ (97 ≤ byte) × (byte < 114) ⌝ }
+// .. from there to below `n` (110), ..
+fn a_to_g(byte: u8) -> Sign
+    requires { ⌜ (97 ≤ byte) × (byte < 110) ⌝ }
     ensures { λ r. ⌜ r ≡ signOf byte ⌝ }
 {
     match byte {
         b'a' => Sign::NamedStep,
+        b'b' => Sign::SumStep,
+        b'e' => Sign::SomeTest,
         b'f' => Sign::NamedFluent,
-        b'n' => Sign::Step,
+        b'g' => Sign::SumFluent,
         _ => Sign::Stranger,
     }
 }
 
 // .. and from there on.
-fn r_to_bar(byte: u8) -> Sign
-    requires { ⌜ 114 ≤ byte ⌝ }
+fn n_to_bar(byte: u8) -> Sign
+    requires { ⌜ 110 ≤ byte ⌝ }
     ensures { λ r. ⌜ r ≡ signOf byte ⌝ }
 {
     match byte {
+        b'n' => Sign::Step,
+        b'p' => Sign::SomeWalk,
         b'r' => Sign::NamedStep,
+        b's' => Sign::SumStep,
         b'u' => Sign::Step,
         b'|' => Sign::TwoWalks,
         _ => Sign::Stranger,
     }
 }
 
-// A match of all fourteen signs the compiler would leave a call of its own, and each sign would be branched on twice; the four parts it sets into whoever asks.
+// A match of all the signs the compiler would leave a call of its own, and each sign would be branched on twice; the four parts it sets into whoever asks.
 pub fn sign_of(byte: u8) -> Sign
     ensures { λ r. ⌜ r ≡ signOf byte ⌝ }
 {
@@ -93,19 +106,20 @@ pub fn sign_of(byte: u8) -> Sign
         } else {
             minus_to_question(byte)
         }
-    } else if byte < b'r' {
-        a_to_n(byte)
+    } else if byte < b'n' {
+        a_to_g(byte)
     } else {
-        r_to_bar(byte)
+        n_to_bar(byte)
     }
 }
 
-// "In a job `-`, `r` and `u` may stand only inside the walk of a `<`": one of these.
+// "In a job `-`, `r` and `u` may stand only inside the walk of a `<`", and "9 covers `s`": one of these.
 pub(crate) fn turns(byte: u8) -> bool
     ensures { λ r. ⌜ r ≡ turnsBack byte ⌝ }
 {
     match byte {
         b'-' | b'r' | b'u' => true,
+        b's' => true,
         _ => false,
     }
 }

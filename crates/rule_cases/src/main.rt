@@ -27,7 +27,15 @@ fn number_of(checked: Check) -> u8 {
 }
 
 fn of(fluents: usize, actions: usize) -> Counts {
-    Counts { fluents, actions }
+    valued(fluents, actions, 0)
+}
+
+fn valued(fluents: usize, actions: usize, domain: usize) -> Counts {
+    Counts {
+        fluents,
+        actions,
+        domain,
+    }
 }
 
 // One row: the call's input, then the number and how many bytes are left over by `read_rule`, and the number by `check_rule`.
@@ -185,6 +193,241 @@ fn smallest_first() {
     );
 }
 
+// Document 02, Q-2: the signs of variables.
+fn variables() {
+    row(
+        b"pvb00v of three actions, 3 values",
+        b"pvb00v",
+        Kind::Walk,
+        valued(2, 3, 3),
+        0,
+        0,
+        0,
+    );
+    row(
+        b"pvb01v, 2 values",
+        b"pvb01v",
+        Kind::Walk,
+        valued(2, 3, 2),
+        0,
+        0,
+        0,
+    );
+    row(
+        b"pvb01v, 3 values",
+        b"pvb01v",
+        Kind::Walk,
+        valued(2, 3, 3),
+        7,
+        0,
+        7,
+    );
+    row(
+        b"b00v, 2 values",
+        b"b00v",
+        Kind::Walk,
+        valued(2, 3, 2),
+        13,
+        0,
+        13,
+    );
+    row(
+        b"b00v, no values",
+        b"b00v",
+        Kind::Walk,
+        valued(2, 3, 0),
+        6,
+        0,
+        6,
+    );
+    row(
+        b"b02v, 2 values",
+        b"b02v",
+        Kind::Walk,
+        valued(2, 3, 2),
+        7,
+        0,
+        7,
+    );
+    row(
+        b"pvb00w, 2 values",
+        b"pvb00w",
+        Kind::Walk,
+        valued(2, 3, 2),
+        13,
+        0,
+        13,
+    );
+    row(
+        b";pvb00vb00v, 2 values",
+        b";pvb00vb00v",
+        Kind::Walk,
+        valued(2, 3, 2),
+        13,
+        0,
+        13,
+    );
+    row(
+        b"pvpw;b00vb00w, 2 values",
+        b"pvpw;b00vb00w",
+        Kind::Walk,
+        valued(2, 3, 2),
+        0,
+        0,
+        0,
+    );
+    row(
+        b"pvpv;b00vb00v, 3 values",
+        b"pvpv;b00vb00v",
+        Kind::Walk,
+        valued(2, 3, 3),
+        0,
+        0,
+        0,
+    );
+    row(
+        b"a00, 16 values",
+        b"a00",
+        Kind::Walk,
+        valued(2, 3, 16),
+        0,
+        0,
+        0,
+    );
+    row(
+        b"a00, 17 values",
+        b"a00",
+        Kind::Walk,
+        valued(2, 3, 17),
+        3,
+        0,
+        3,
+    );
+    row(
+        b"pza00, 2 values",
+        b"pza00",
+        Kind::Walk,
+        valued(2, 3, 2),
+        6,
+        0,
+        6,
+    );
+    row(
+        b"b0v, 2 values",
+        b"b0v",
+        Kind::Walk,
+        valued(2, 3, 2),
+        6,
+        0,
+        6,
+    );
+    row(
+        b"b00, 2 values",
+        b"b00",
+        Kind::Walk,
+        valued(2, 3, 2),
+        6,
+        0,
+        6,
+    );
+    row(
+        b"v00, 2 values",
+        b"v00",
+        Kind::Walk,
+        valued(2, 3, 2),
+        6,
+        0,
+        6,
+    );
+    row(
+        b"evg00v, 2 values",
+        b"evg00v",
+        Kind::Test,
+        valued(2, 3, 2),
+        0,
+        0,
+        0,
+    );
+    row(
+        b"evg00v, 3 values",
+        b"evg00v",
+        Kind::Test,
+        valued(2, 3, 3),
+        7,
+        0,
+        7,
+    );
+    row(
+        b"job s00v, 2 values",
+        b"s00v",
+        Kind::Job,
+        valued(2, 3, 2),
+        9,
+        0,
+        9,
+    );
+    row(
+        b"job pvs00v, 2 values",
+        b"pvs00v",
+        Kind::Job,
+        valued(2, 3, 2),
+        9,
+        0,
+        9,
+    );
+    row(
+        b"job pv?<s00v1, 2 values",
+        b"pv?<s00v1",
+        Kind::Job,
+        valued(2, 3, 2),
+        0,
+        0,
+        0,
+    );
+    row(
+        b"walk -s00v, 1 value",
+        b"-s00v",
+        Kind::Walk,
+        valued(2, 3, 1),
+        13,
+        0,
+        13,
+    );
+    row(
+        b"pvb00v and a rest",
+        b"pvb00vn",
+        Kind::Walk,
+        valued(2, 3, 3),
+        0,
+        1,
+        6,
+    );
+}
+
+// A binder adds one to the depth, a letter nothing.
+fn depths_of_variables() {
+    let deep = b"!!!!!!!!!!!!!!!!!!!!!!!evg00v";
+    let all = &deep[..];
+    row(
+        b"23 ! before evg00v",
+        all,
+        Kind::Test,
+        valued(2, 3, 2),
+        8,
+        0,
+        8,
+    );
+    row(
+        b"22 ! before evg00v",
+        &all[1..],
+        Kind::Test,
+        valued(2, 3, 2),
+        0,
+        0,
+        0,
+    );
+}
+
 // In -;a00*n the sequence ends with the text, its first part before the star; past the text the table is left.
 fn table_of_ends() {
     let mut ends = [99u8; 12];
@@ -203,5 +446,7 @@ fn main() {
     rests();
     jobs();
     smallest_first();
+    variables();
+    depths_of_variables();
     table_of_ends();
 }

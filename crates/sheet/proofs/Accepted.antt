@@ -11,21 +11,22 @@ use native.Mathlib.Omega.{arith}
 use lib.ListN.{length, getD, length-append, List·getD-append}
 use lib.Seq.{getD-append-add}
 use Rattle.meaning.specs.Rule.{Kind}
-use Rattle.meaning.specs.Refusal.{Accepted, NamesLacking, OneLacking}
+use Rattle.meaning.specs.Refusal.{Accepted, NamesLacking, OneLacking, BadLog}
 use Rattle.meaning.proofs.Refusal.{accepts, passes, not-first, not-rest}
 use Rattle.rule.specs.Outcome.{ruleRows}
 use Rattle.sheet.specs.Line.{Judge, Form, Says, judgeRows, lineRows}
 use Rattle.sheet.specs.Forms.{startForm, actForm, ruleForm}
-use Rattle.sheet.specs.Lines.{Sheet, Lines, opened, actLines, fromLog, ReadAs, SheetSays}
-use Rattle.sheet.specs.Versions.{sheet1}
+use Rattle.sheet.specs.Lines.{Sheet, Lines, opened, actLines, fromLog, fromStart, ReadAs, SheetSays}
+use Rattle.sheet.specs.Versions.{versionOf}
 use Rattle.sheet.specs.declared.Version.{Version}
 use Rattle.sheet.specs.Sections.{Ranged}
-use Rattle.meaning.specs.Theory.{stride}
 use Rattle.theory.specs.Subject.{settingOf}
 use Rattle.theory.specs.Rows.{CountsOut}
 use Rattle.theory.specs.declared.Counts.{Counts}
 use Rattle.theory.specs.declared.Setting.{Setting}
 use Rattle.sheet.specs.Legal.{Legal}
+use Rattle.sheet.proofs.VersionRows.{Callable, callable}
+use Rattle.sheet.proofs.Domain.{past-domain}
 use Rattle.sheet.proofs.Rows.{Clean}
 use Rattle.sheet.proofs.RuleLine.{counts-good}
 
@@ -95,23 +96,26 @@ rule-of :
     → Accepted (ruleRows true kind text counts)
 rule-of key kind counts bytes at text good says acc =
     let clean = clean-of (ruleForm key kind counts) bytes at text says acc in
-    passes good (passes (says .inRange) (passes (clean .0) (passes (clean .1 .0) (passes (clean .1 .1 .0) accepts))))
+    passes good (passes (says .inRange) (passes (clean .0) (passes (clean .1 .0) (passes (clean .1 .1 .0) (passes (clean .1 .1 .1 .0) accepts)))))
 
 -- what the head and the table say, and the last four lines, make a legal sheet
 last-legal :
-    (setting : Setting) (masks bytes : List ℕ) (at : ℕ) (sheet : Sheet) → Ranged (setting .counts)
-    → (NamesLacking (setting .counts .fluents) (setting .start) → ⊥) → length masks ≡ stride * setting .counts .actions
-    → (OneLacking (setting .counts .fluents) masks → ⊥) → ReadAs (fromLog sheet1 (opened setting masks)) bytes at sheet → Legal sheet
+    (v : Version) (setting : Setting) (masks bytes : List ℕ) (at : ℕ) (sheet : Sheet) → Callable v → Ranged (setting .counts)
+    → (NamesLacking (setting .counts .fluents) (setting .start) → ⊥) → length masks ≡ v .masks * setting .counts .actions
+    → (OneLacking (setting .counts .fluents) masks → ⊥) → ReadAs (fromLog v (opened setting masks)) bytes at sheet → Legal sheet
 unfolding ReadAs
-last-legal setting masks bytes at sheet ranged known long none-lacks log =
+last-legal v setting masks bytes at sheet call ranged known long none-lacks log =
     let ask = log .3 in
     let run = ask .3 in
     let more = run .3 in
     let good = counts-good (setting .counts) ranged in
+    let actions = setting .counts .actions in
+    let as-called = subst (λ (n : ℕ). length masks ≡ n * actions) (call .masks) long in
+    let short = subst (λ (n : ℕ). BadLog n actions (log .0) → ⊥) (call .log) (log .1 .inRange) in
     subst Legal (sym (more .3 .1))
     (record {
       world =
-          passes (⊎-elim good (λ bad. bad long)) (passes (⊎-elim known none-lacks) (passes (log .1 .inRange) accepts));
+          passes (⊎-elim good (λ bad. bad as-called)) (passes (⊎-elim known none-lacks) (passes short accepts));
       ask = rule-of _ _ (setting .counts) bytes _ (ask .0) good (ask .1) (ask .2);
       run = rule-of _ _ (setting .counts) bytes _ (run .0) good (run .1) (run .2);
       more = λ bad. omega (arith, bad, more .1 .inRange .1);
@@ -120,15 +124,24 @@ last-legal setting masks bytes at sheet ranged known long none-lacks log =
 pub legal : (bytes : List ℕ) (sheet : Sheet) → SheetSays bytes sheet → Legal sheet
 unfolding ReadAs
 legal bytes sheet s =
+    let number = s .1 .0 in
+    let v = versionOf number in
     let fluents = s .1 .3 in
     let actions = fluents .3 in
-    let start = actions .3 in
-    let setting = settingOf (fluents .0) (actions .0) (start .0) in
+    let valued =
+    past-domain (v .valued) (λ domain. fromStart v (record { fluents = fluents .0; actions = actions .0; domain = domain })) bytes _ sheet (actions .3) in
+    let start = valued .reads in
+    let setting = settingOf (fluents .0) (actions .0) (valued .domain) (start .0) in
     let t =
-    acts-table sheet1 (fluents .0) (actions .0) [] (λ masks. fromLog sheet1 (opened setting masks)) bytes _ sheet (λ h. absurd (omega (arith, h .there)))
+    acts-table v (fluents .0) (actions .0) [] (λ masks. fromLog v (opened setting masks)) bytes _ sheet (λ h. absurd (omega (arith, h .there)))
     (start .3) in
-    last-legal setting (t .masks) bytes (t .at) sheet
-    (record { fewFluents = fluents .1 .inRange .1; someActions = actions .1 .inRange .0; fewActions = actions .1 .inRange .1 })
+    last-legal v setting (t .masks) bytes (t .at) sheet (callable number)
+    (record {
+      fewFluents = fluents .1 .inRange .1;
+      someActions = actions .1 .inRange .0;
+      fewActions = actions .1 .inRange .1;
+      fewValues = valued .few;
+    })
     (clean-of (startForm (fluents .0)) bytes _ (start .0) (start .1) (start .2) .0)
     (omega (arith, t .long))
     (t .known)

@@ -34,9 +34,9 @@ row-within h a l =
     let most : masksOf h (a + 1) ≤ masksIn h = mul-le-mul-left (h .version .masks) (omega arith) in
     omega (arith, next-row h a, most)
 
--- a head with these counts, whatever its start state is
-abbrev pub headBy : Version → ℕ → ℕ → Cursor → ℕ → Head
-headBy v fluents actions last start = record { version = v; setting = settingOf fluents actions start; last = last }
+-- a head with these counts, whatever its domain and its start state are
+abbrev pub headBy : Version → ℕ → ℕ → Cursor → ℕ → ℕ → Head
+headBy v fluents actions last domain start = record { version = v; setting = settingOf fluents actions domain start; last = last }
 
 -- the lines that are still to come after some actions, which left this table
 abbrev toCome : Head → List ℕ → ℕ → Lines
@@ -101,7 +101,7 @@ module _ (bytes : List ℕ) (h : Head) (entry table : List ℕ) (a : ℕ) (last 
       record {
         few = omega arith;
         long = long ∙ read .long;
-        below = below-line form bytes (last .end + 1) (last .line + 1) below (rowAt table′ row count) c acc (omega arith);
+        below = below-line form bytes (last .end + 1) (last .line + 1) (rowAt table′ row count) c acc (omega arith);
         back =
             ap (λ (n : ℕ). drop n table′) (next-row h a)
             ∙ only .back

@@ -1,6 +1,7 @@
 -- What reading a sheet finds is determined: lines have one fault or say one thing, and never both; two answers that the contract allows are equal.
 use mathlib.Core.Path.{_≡_, sym, ap, ap₂, _∙_, subst}
 use mathlib.Core.Logic.{inl, inr}
+use mathlib.Core.Bool.{Bool, true, false}
 use mathlib.Core.List.{List, [], _++_}
 use Prim.Native.Nat.{ℕ, zero, suc, _+_}
 use native.Mathlib.Omega.{arith}
@@ -9,9 +10,10 @@ use Rattle.refusal.proofs.Numbers.{one-number}
 use Rattle.meaning.proofs.Refusal.{refused-unique, refused-not-accepted}
 use Rattle.rule.specs.Outcome.{PartAt}
 use Rattle.theory.specs.Subject.{countsOf, settingOf}
-use Rattle.sheet.specs.Lines.{Sheet, Lines, line, none, opened, actLines, fromLog, sheetLines, valueAt, nextAt, ReadAs, FaultIn, SheetRefused, SheetSays}
+use Rattle.sheet.specs.Lines.{Sheet, Lines, line, none, opened, actLines, fromLog, domainThen, fromStart, sheetLines, valueAt, nextAt, ReadAs, FaultIn, SheetRefused, SheetSays}
 use Rattle.sheet.specs.Versions.{versionOf}
 use Rattle.sheet.specs.declared.Version.{Version}
+use Rattle.theory.specs.declared.Counts.{Counts}
 use Rattle.sheet.specs.Answer.{parsedOf, fronted, SheetAnswered}
 use Rattle.sheet.specs.declared.SheetAnswer.{SheetAnswer}
 use Rattle.sheet.specs.declared.SheetAnswer.the-variants.{Faulty, Read}
@@ -76,6 +78,18 @@ last-clear v s = (
   ),
 )
 
+start-lines-clear : (v : Version) (c : Counts) → AllClear (fromStart v c)
+start-lines-clear v c = (
+  start-clear (c .fluents),
+  λ start _ _.
+      let s = settingOf (c .fluents) (c .actions) (c .domain) start in
+      acts-clear v (c .fluents) (c .actions) [] (λ masks. fromLog v (opened s masks)) (λ masks. last-clear v (opened s masks)),
+)
+
+domain-clear : (valued : Bool) (next : ℕ → Lines) → ((domain : ℕ) → AllClear (next domain)) → AllClear (domainThen valued next)
+domain-clear true next clear = (number-clear [] 2 _ _ (omega arith), λ domain _ _. clear domain)
+domain-clear false next clear = clear 0
+
 sheet-clear : AllClear sheetLines
 sheet-clear = (
   number-clear [] 1 _ _ (omega arith),
@@ -83,13 +97,10 @@ sheet-clear = (
     number-clear [] 2 _ _ (omega arith),
     λ fluents _ _. (
       number-clear [] 2 _ _ (omega arith),
-      λ actions _ _. (
-        start-clear fluents,
-        λ start _ _.
-            let s = settingOf fluents actions start in
-            let v = versionOf number in
-            acts-clear v fluents actions [] (λ masks. fromLog v (opened s masks)) (λ masks. last-clear v (opened s masks)),
-      ),
+      λ actions _ _.
+          let v = versionOf number in
+          let counts : ℕ → Counts = λ domain. record { fluents = fluents; actions = actions; domain = domain } in
+          domain-clear (v .valued) (λ domain. fromStart v (counts domain)) (λ domain. start-lines-clear v (counts domain)),
     ),
   ),
 )

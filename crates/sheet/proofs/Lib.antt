@@ -1,7 +1,9 @@
+pub mod VersionRows
 pub mod Rows
 pub mod Ends
 pub mod Say
 pub mod Order
+pub mod Domain
 pub mod Written
 pub mod MaskRow
 pub mod Forms

@@ -1,26 +1,32 @@
--- "With 64 actions the longest sheet has 3,263 bytes": no sheet whose lines are right is longer, so refusal 1 keeps no such sheet out.
-use mathlib.Core.Path.{ap, _∙_}
+-- "With 64 actions the longest sheet has 3,263 bytes", one of version 2 3,273: no sheet of a version whose lines are right is longer, so refusal 1 keeps no
+-- such sheet out.
+use mathlib.Core.Path.{ap, _∙_, subst}
 use mathlib.Core.Logic.{inl, inr}
+use mathlib.Core.Bool.{Bool, true, false, cond}
 use mathlib.Core.List.{List, [], _++_}
 use Prim.Native.Nat.{ℕ, zero, suc, _+_, _*_, _≤_, _<_}
 use native.Mathlib.Decide.{decLt}
 use native.Mathlib.Nat.{zero-mul, suc-mul, mul-le-mul-right}
 use native.Mathlib.Omega.{arith}
 use lib.ListN.{length, length-drop}
-use Rattle.meaning.specs.Limits.{textLimit}
+use Rattle.meaning.specs.Limits.{actionLimit, textLimit}
 use Rattle.meaning.specs.Rule.{Kind}
 use Rattle.meaning.specs.Refusal.{BadRule}
 use Rattle.meaning.proofs.Refusal.{not-first}
 use Rattle.theory.specs.Subject.{settingOf, countsOf}
 use Rattle.spelling.proofs.Numeral.{length-numeral}
 use Rattle.spelling.proofs.LogText.{log-long}
-use Rattle.sheet.specs.Line.{Form, lineWidth}
+use Rattle.sheet.specs.Line.{Form, Says, lineWidth}
 use Rattle.sheet.specs.Masks.{rowWidth}
 use Rattle.sheet.specs.Versions.{versionOf}
-use Rattle.sheet.specs.Forms.{versionForm, fluentsForm, actionsForm, startForm, actForm, logForm, askForm, runForm, moreForm}
-use Rattle.sheet.specs.Longest.{moreWidth, runWidth, askWidth, logWidth, actsWidth, startWidth, actionsWidth, fluentsWidth, sheetLimit}
-use Rattle.sheet.specs.Lines.{Sheet, Lines, line, none, opened, withLog, withAsk, withRun, fromMore, fromRun, fromAsk, fromLog, actLines, fromActs, fromFluents, sheetLines, valueAt, nextAt, ReadAs}
+use Rattle.sheet.specs.Forms.{versionForm, fluentsForm, actionsForm, domainForm, startForm, actForm, logForm, askForm, runForm, moreForm}
+use Rattle.sheet.specs.Longest.{moreWidth, runWidth, askWidth, logWidth, actsWidth, startWidth, domainWidth, actionsWidth, fluentsWidth, longest, sheetLimit}
+use Rattle.sheet.specs.Lines.{Sheet, Lines, line, none, opened, withLog, withAsk, withRun, fromMore, fromRun, fromAsk, fromLog, actLines, fromActs, domainThen, fromStart, fromFluents, sheetLines, valueAt, nextAt, ReadAs}
 use Rattle.sheet.specs.declared.Version.{Version}
+use Rattle.theory.specs.declared.Counts.{Counts}
+use Rattle.sheet.proofs.VersionRows.{of-each}
+use Rattle.sheet.proofs.Rows.{one-said}
+use Rattle.sheet.proofs.Forms.{number-clear}
 use Rattle.sheet.proofs.MaskRow.{masks-long}
 use Rattle.sheet.proofs.LogSteps.{steps-few}
 
@@ -62,8 +68,8 @@ act-fits v fluents row range = let same = masks-long row ∙ ap rowWidth (range 
 log-fits : (v : Version) (actions : ℕ) → Fits (logForm v actions)
 log-fits v actions log good = omega (arith, log-long log, steps-few (v .log) actions log good)
 
-rule-short : (kind : Kind) (text : List ℕ) → (BadRule kind text → ⊥) → length text ≤ textLimit
-rule-short kind text good = go (decLt textLimit (length text))
+rule-short : (domain : ℕ) (kind : Kind) (text : List ℕ) → (BadRule domain kind text → ⊥) → length text ≤ textLimit
+rule-short domain kind text good = go (decLt textLimit (length text))
   where
     go : Dec (textLimit < length text) → length text ≤ textLimit
     go (yes l) = absurd (good (inr (inl l)))
@@ -77,11 +83,11 @@ more-at-most s =
 
 run-at-most : (s : Sheet) → AtMost (fromRun s) runWidth
 run-at-most s =
-    at-line (runForm (countsOf (s .subject))) _ moreWidth (λ run good. rule-short _ run good) (λ run _ at. more-at-most (withRun s run at))
+    at-line (runForm (countsOf (s .subject))) _ moreWidth (λ run good. rule-short _ _ run good) (λ run _ at. more-at-most (withRun s run at))
 
 ask-at-most : (s : Sheet) → AtMost (fromAsk s) askWidth
 ask-at-most s =
-    at-line (askForm (countsOf (s .subject))) _ runWidth (λ ask good. rule-short _ ask good) (λ ask _ at. run-at-most (withAsk s ask at))
+    at-line (askForm (countsOf (s .subject))) _ runWidth (λ ask good. rule-short _ _ ask good) (λ ask _ at. run-at-most (withAsk s ask at))
 
 log-at-most : (v : Version) (s : Sheet) → AtMost (fromLog v s) (logWidth v)
 log-at-most v s =
@@ -100,19 +106,42 @@ acts-at-most v fluents (suc actions) table next n rest =
     (at-line form (λ row at. actLines v fluents actions (table ++ row) next) (actions * lineWidth form + n) (act-fits v fluents)
     (λ row range at. acts-at-most v fluents actions (table ++ row) next n rest))
 
+start-at-most : (v : Version) (c : Counts) → c .actions ≤ actionLimit → AtMost (fromStart v c) (startWidth v)
+start-at-most v c few =
+    let form = actForm v (c .fluents) in
+    at-line (startForm (c .fluents)) _ (actsWidth v) (λ n word. omega (arith, length-numeral 16 8 n)) λ start _ _.
+    let s = settingOf (c .fluents) (c .actions) (c .domain) start in
+    wider (fromActs v s) (c .actions * lineWidth form + logWidth v) (actsWidth v) (omega (arith, mul-le-mul-right (lineWidth form) few))
+    (acts-at-most v (c .fluents) (c .actions) [] (λ masks. fromLog v (opened s masks)) (logWidth v) (λ masks. log-at-most v (opened s masks)))
+
+-- the line of the domain takes its width where there is one
+domain-at-most :
+    (valued : Bool) (next : ℕ → Lines) (n : ℕ) → ((domain : ℕ) → AtMost (next domain) n)
+    → AtMost (domainThen valued next) (cond valued (lineWidth domainForm) 0 + n)
+domain-at-most true next n rest = at-line domainForm _ n (λ n range. omega (arith, length-numeral 10 2 n)) (λ domain _ _. rest domain)
+domain-at-most false next n rest = wider (next 0) n (0 + n) (omega arith) (rest 0)
+
 head-at-most : (v : Version) → AtMost (fromFluents v) (fluentsWidth v)
 head-at-most v =
     at-line fluentsForm _ (actionsWidth v) (λ n range. omega (arith, length-numeral 10 2 n)) λ fluents _ _.
-    at-line actionsForm _ (startWidth v) (λ n range. omega (arith, length-numeral 10 2 n)) λ actions range _.
-    at-line (startForm fluents) _ (actsWidth v) (λ n word. omega (arith, length-numeral 16 8 n)) λ start _ _.
-    wider (fromActs v (settingOf fluents actions start)) (actions * lineWidth (actForm v fluents) + logWidth v) (actsWidth v)
-    (omega (arith, mul-le-mul-right (lineWidth (actForm v fluents)) (range .1)))
-    (acts-at-most v fluents actions [] (λ masks. fromLog v (opened (settingOf fluents actions start) masks)) (logWidth v) (λ masks. log-at-most v (opened (settingOf fluents actions start) masks)))
+    at-line actionsForm _ (domainWidth v) (λ n range. omega (arith, length-numeral 10 2 n)) λ actions range _.
+    domain-at-most (v .valued) _ (startWidth v) (λ domain. start-at-most v _ (range .1))
 
-sheet-at-most : AtMost sheetLines sheetLimit
-sheet-at-most =
-    at-line versionForm _ (fluentsWidth (versionOf 1)) (λ n range. omega (arith, length-numeral 10 1 n)) λ number _ _. head-at-most (versionOf number)
+-- a sheet is at most as long as the longest of its version
+pub version-longest :
+    (bytes : List ℕ) (sheet : Sheet) (number : ℕ) → Says versionForm bytes 0 number → ReadAs sheetLines bytes 0 sheet
+    → length bytes ≤ longest (versionOf number)
+unfolding AtMost ReadAs
+version-longest bytes sheet number says r =
+    let same = one-said versionForm bytes 0 (number-clear [] 1 _ _ (omega arith)) (r .0) number (r .1) says in
+    let below = head-at-most (versionOf (r .0)) bytes (nextAt versionForm 0 (r .0)) sheet (r .3) in
+    let long = length-numeral 10 1 (r .0) in
+    subst (λ (n : ℕ). length bytes ≤ longest (versionOf n)) same (omega (arith, below, long))
 
-pub longest : (bytes : List ℕ) (sheet : Sheet) → ReadAs sheetLines bytes 0 sheet → length bytes ≤ sheetLimit
-unfolding AtMost
-longest bytes sheet r = omega (arith, sheet-at-most bytes 0 sheet r)
+-- and none is longer than the limit of all
+each-within : (number : ℕ) → longest (versionOf number) ≤ sheetLimit
+each-within = of-each (λ v. longest v ≤ sheetLimit) (omega arith, (omega arith, tt))
+
+pub sheet-longest : (bytes : List ℕ) (sheet : Sheet) → ReadAs sheetLines bytes 0 sheet → length bytes ≤ sheetLimit
+unfolding ReadAs
+sheet-longest bytes sheet r = omega (arith, version-longest bytes sheet (r .0) (r .1) r, each-within (r .0))

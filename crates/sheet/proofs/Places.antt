@@ -1,18 +1,21 @@
 -- Places on a sheet: a rule stands where its line says, and no fault is further down than a sheet has lines.
 use mathlib.Core.Path.{_≡_, sym, ap, subst, _∙_}
 use mathlib.Core.Logic.{inl, inr}
+use mathlib.Core.Bool.{Bool, true, false}
 use mathlib.Core.List.{List, [], _∷_, _++_}
 use Prim.Native.Nat.{ℕ, zero, suc, _+_, _-_, _≤_, _<_}
 use native.Mathlib.Omega.{arith}
 use lib.ListN.{length, take, drop}
 use lib.Seq.{drop-drop, drop-append-seam, take-append-seam}
 use Rattle.theory.specs.Subject.{settingOf}
+use Rattle.theory.specs.declared.Setting.{Setting}
 use Rattle.spelling.specs.Numeral.{lf}
 use Rattle.spelling.specs.Scan.{stretch}
 use Rattle.sheet.specs.Line.{Line}
 use Rattle.sheet.specs.Versions.{versionOf}
-use Rattle.sheet.specs.Lines.{Sheet, Lines, line, none, opened, actLines, fromLog, fromActs, sheetLines, ReadAs, FaultIn, SheetRefused, SheetSays}
+use Rattle.sheet.specs.Lines.{Sheet, Lines, line, none, opened, actLines, fromLog, fromActs, domainThen, fromStart, sheetLines, ReadAs, FaultIn, SheetRefused, SheetSays}
 use Rattle.sheet.specs.declared.Version.{Version}
+use Rattle.sheet.proofs.Domain.{past-domain}
 
 -- the value of a line is the stretch behind its key
 stands : {key bytes : List ℕ} {at : ℕ} {value : List ℕ} → Line key bytes at value
@@ -41,20 +44,28 @@ pub record Standing (bytes : List ℕ) (s : Sheet) : Type 0 where
   pub ask : stretch bytes (s .askAt) (s .askAt + length (s .ask)) ≡ s .ask
   pub run : stretch bytes (s .runAt) (s .runAt + length (s .run)) ≡ s .run
 
+last-standing :
+    (v : Version) (setting : Setting) (masks bytes : List ℕ) (at : ℕ) (s : Sheet) → ReadAs (fromLog v (opened setting masks)) bytes at s → Standing bytes s
+unfolding ReadAs
+last-standing v setting masks bytes at s log =
+    let ask = log .3 in
+    let run = ask .3 in
+    let more = run .3 in
+    subst (Standing bytes) (sym (more .3 .1)) (record { ask = stands (ask .1 .line); run = stands (run .1 .line) })
+
 pub standing : (bytes : List ℕ) (s : Sheet) → SheetSays bytes s → Standing bytes s
 unfolding ReadAs
 standing bytes s says =
     let version = says .1 in
     let fluents = version .3 in
     let actions = fluents .3 in
-    let start = actions .3 in
     let v = versionOf (version .0) in
-    let setting = settingOf (fluents .0) (actions .0) (start .0) in
-    let log = behind v (fluents .0) (actions .0) [] (λ masks. fromLog v (opened setting masks)) bytes _ s (start .3) .reads in
-    let ask = log .3 in
-    let run = ask .3 in
-    let more = run .3 in
-    subst (Standing bytes) (sym (more .3 .1)) (record { ask = stands (ask .1 .line); run = stands (run .1 .line) })
+    let valued =
+    past-domain (v .valued) (λ domain. fromStart v (record { fluents = fluents .0; actions = actions .0; domain = domain })) bytes _ s (actions .3) in
+    let start = valued .reads in
+    let setting = settingOf (fluents .0) (actions .0) (valued .domain) (start .0) in
+    let log = behind v (fluents .0) (actions .0) [] (λ masks. fromLog v (opened setting masks)) bytes _ s (start .3) in
+    last-standing v setting (log .masks) bytes (log .at) s (log .reads)
 
 -- there are at most so many lines
 abbrev Most : ℕ → Lines → Type 0
@@ -86,13 +97,19 @@ acts-most v fluents (suc actions) table next n most =
     more-lines (actLines v fluents (suc actions) table next) (suc (actions + n)) (suc actions + n) (omega arith)
     (λ row range at. acts-most v fluents actions (table ++ row) next n most)
 
+domain-most : (valued : Bool) (next : ℕ → Lines) (n : ℕ) → ((domain : ℕ) → Most n (next domain)) → Most (suc n) (domainThen valued next)
+domain-most true next n most = λ domain _ _. most domain
+domain-most false next n most = more-lines (next 0) n (suc n) (omega arith) (most 0)
+
 -- the lines of at most as many actions as there may be, and those above and below them
 sheet-most : Most 998 sheetLines
-sheet-most number _ _ fluents _ _ actions range _ start _ _ =
+sheet-most number _ _ fluents _ _ actions range _ =
     let v = versionOf number in
-    let s = settingOf fluents actions start in
-    more-lines (fromActs v s) (actions + 4) 994 (omega (arith, range .1))
-    (acts-most v fluents actions [] (λ masks. fromLog v (opened s masks)) 4 (λ masks log _ _ ask _ _ run _ _ more _ _. tt))
+    domain-most (v .valued) (λ domain. fromStart v (record { fluents = fluents; actions = actions; domain = domain })) 994
+    (λ domain start _ _.
+    let s = settingOf fluents actions domain start in
+    more-lines (fromActs v s) (actions + 4) 993 (omega (arith, range .1))
+    (acts-most v fluents actions [] (λ masks. fromLog v (opened s masks)) 4 (λ masks log _ _ ask _ _ run _ _ more _ _. tt)))
 
 -- a place has at most three digits
 pub place-small : (bytes : List ℕ) (number place : ℕ) → SheetRefused bytes number place → place < 1000

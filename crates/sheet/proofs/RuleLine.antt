@@ -23,7 +23,9 @@ use Rattle.sheet.proofs.Say.{unsaid, says, accepted}
 
 -- counts that a sheet's head says are in range
 pub counts-good : (counts : Counts) → Ranged counts → CountsOut counts → ⊥
-counts-good counts r = ⊎-elim (λ h. omega (arith, r .fewFluents)) (⊎-elim (λ h. omega (arith, r .someActions)) (λ h. omega (arith, r .fewActions)))
+counts-good counts r =
+    ⊎-elim (⊎-elim (λ h. omega (arith, r .fewFluents)) (⊎-elim (λ h. omega (arith, r .someActions)) (λ h. omega (arith, r .fewActions))))
+    (λ h. omega (arith, r .fewValues))
 
 module _ (key : List ℕ) (kind : Kind) (counts : Counts) (bytes : List ℕ) (at line : ℕ) (c : Cursor) (stands : CursorAt key bytes at line c) where
   abbrev form : Form
@@ -35,7 +37,7 @@ module _ (key : List ℕ) (kind : Kind) (counts : Counts) (bytes : List ℕ) (at
   pub rule-refused : Ranged counts → {N : ℕ} → Refused (ruleRows true kind text counts) N → Refused (lineRows form bytes at) N
   rule-refused ranged r =
       ⊎-elim
-      (λ h. subst (Refused (lineRows form bytes at)) (sym (h .0)) (unsaid form bytes at line stands (λ said good e. good (subst (BadRule kind) e (h .1)))))
+      (λ h. subst (Refused (lineRows form bytes at)) (sym (h .0)) (unsaid form bytes at line stands (λ said good e. good (subst (BadRule (counts .domain) kind) e (h .1)))))
       (λ h.
       judged-by form bytes at (rule-clear key kind counts) text (says form bytes at line stands text (h .0) refl) (record { first = h .1 }))
       (rest-refused (counts-good counts ranged) r .first)

@@ -8,7 +8,7 @@ use native.Mathlib.Nat.{mul-le-mul-right}
 use native.Mathlib.Omega.{arith}
 use Rattle.meaning.specs.Limits.{actionLimit}
 use Rattle.meaning.specs.Theory.{stride}
-use Rattle.sheet.specs.Versions.{Usable, versionOf}
+use Rattle.sheet.specs.Versions.{Usable}
 use Rattle.sheet.specs.Lines.{Lines, opened, fromLog, sheetLines}
 use Rattle.sheet.specs.Answer.{fronted}
 use Rattle.sheet.specs.Onward.{Onward}
@@ -27,10 +27,6 @@ pub front-written :
 front-written entry exit n room back =
     sym (take-append-drop n exit)
     ∙ ap (λ (rest : List ℕ). take n exit ++ rest) (back ∙ ap (λ (k : ℕ). drop k entry) (sym (length-take-le n exit room)))
-
--- every version's row can be read by
-pub usable : (number : ℕ) → Usable (versionOf number)
-usable number = record { some = omega arith; few = omega arith; short = omega arith }
 
 -- the lent table has room for their masks
 pub room-for : (h : Head) → Usable (h .version) → Ranged (h .setting .counts) → masksIn h ≤ stride * actionLimit

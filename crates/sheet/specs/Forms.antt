@@ -1,11 +1,11 @@
--- Document 01, "The sheet": what each line may say.
+-- Document 01, "The sheet", and what document 02, Q-2 adds: what each line may say.
 use mathlib.Core.Bool.{true}
 use mathlib.Core.List.{List, [], _∷_}
 use Prim.Native.Nat.{ℕ, _*_, _≤_}
 use Rattle.laws.specs.Text.{bytes}
-use Rattle.meaning.specs.Limits.{fluentLimit, actionLimit, textLimit, moreLimit}
+use Rattle.meaning.specs.Limits.{fluentLimit, actionLimit, textLimit, domainLimit, moreLimit}
 use Rattle.meaning.specs.Rule.{Kind, testKind, jobKind}
-use Rattle.meaning.specs.Refusal.{NamesLacking, OneLacking, BadLog, BadRule, BadNames, TooDeep, BadJob}
+use Rattle.meaning.specs.Refusal.{NamesLacking, OneLacking, BadLog, BadRule, BadNames, TooDeep, BadJob, Unbound}
 use Rattle.theory.specs.declared.Counts.{Counts}
 use Rattle.spelling.specs.Numeral.{numeral, wordWidth, hex8, logText}
 use Rattle.rule.specs.Outcome.{Spelled, With}
@@ -27,7 +27,7 @@ numberForm key width low high =
       judges = [];
     }
 
--- `sheet=1`
+-- `sheet=1`, `sheet=2`
 abbrev pub versionForm : Form
 versionForm = numberForm (bytes "sheet=") digitWidth 1 newest
 
@@ -38,6 +38,10 @@ fluentsForm = numberForm (bytes "fluents=") countWidth 0 fluentLimit
 -- `actions=NN` (01 to 64)
 abbrev pub actionsForm : Form
 actionsForm = numberForm (bytes "actions=") countWidth 1 actionLimit
+
+-- Q-2: `domain=NN` (01 to 16); "3 for a bad domain"
+abbrev pub domainForm : Form
+domainForm = numberForm (bytes "domain=") countWidth 1 domainLimit
 
 -- `start=` 8 hex digits; 4: "start .. names a fluent the theory lacks"
 abbrev pub startForm : ℕ → Form
@@ -78,7 +82,7 @@ logForm v actions =
       judges = [];
     }
 
--- a rule; 6: "a rule is empty, over 255 bytes, or not exactly one rule of its kind"
+-- a rule; 6: "a rule is empty, over 255 bytes, or not exactly one rule of its kind", or it has "the new signs in sheet=1", whose domain is 0
 abbrev pub ruleForm : List ℕ → Kind → Counts → Form
 ruleForm key kind counts =
     record {
@@ -86,12 +90,13 @@ ruleForm key kind counts =
       Value = List ℕ;
       spell = λ text. text;
       width = textLimit;
-      InRange = λ text. BadRule kind text → ⊥;
+      InRange = λ text. BadRule (counts .domain) kind text → ⊥;
       otherwise = 6;
       judges =
-          (7 if (λ text. With (Spelled true kind text) (BadNames (counts .fluents) (counts .actions))))
+          (7 if (λ text. With (Spelled true kind text) (BadNames (counts .domain) (counts .fluents) (counts .actions))))
           ∷ (8 if (λ text. With (Spelled true kind text) TooDeep))
           ∷ (9 if (λ text. With (Spelled true kind text) (BadJob kind)))
+          ∷ (13 if (λ text. With (Spelled true kind text) Unbound))
           ∷ [];
     }
 

@@ -39,3 +39,9 @@ LineRead form bytes at line said (Next c) = Accepts form bytes at line (said c) 
 pub record Below (bytes : List ℕ) (c : Cursor) : Type 0 where
   pub within : c .end < length bytes
   pub early : c .line ≤ c .end
+
+-- the line below a cursor, read: where it is accepted, reading goes on from it
+abbrev pub ReadBelow : (form : Form) → List ℕ → Cursor → (Cursor → form .Value) → LineAnswer → Type 0
+ReadBelow form bytes above said (Faulty f) =
+    Refused (lineRows form bytes (above .end + 1)) (numberOf (f .refusal)) × (f .line ≡ above .line + 1)
+ReadBelow form bytes above said (Next c) = Accepts form bytes (above .end + 1) (above .line + 1) (said c) c × Below bytes c

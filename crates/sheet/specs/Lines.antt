@@ -1,6 +1,7 @@
--- Document 01, "The sheet": its lines in their order, and what reading them from the top finds.
+-- Document 01, "The sheet", and what document 02, Q-2 adds: its lines in their order, and what reading them from the top finds.
 use mathlib.Core.Path.{_≡_}
 use mathlib.Core.Logic.{_⊎_}
+use mathlib.Core.Bool.{Bool, true, false}
 use mathlib.Core.List.{List, [], _++_}
 use Prim.Native.Nat.{ℕ, zero, suc, _+_, _≤_, _<_}
 use lib.ListN.{length}
@@ -11,7 +12,7 @@ use Rattle.theory.specs.declared.Setting.{Setting}
 use Rattle.sheet.specs.Line.{Form, Says, lineRows, endRows}
 use Rattle.sheet.specs.Versions.{versionOf}
 use Rattle.sheet.specs.Longest.{sheetLimit}
-use Rattle.sheet.specs.Forms.{versionForm, fluentsForm, actionsForm, startForm, actForm, logForm, askForm, runForm, moreForm}
+use Rattle.sheet.specs.Forms.{versionForm, fluentsForm, actionsForm, domainForm, startForm, actForm, logForm, askForm, runForm, moreForm}
 use Rattle.sheet.specs.declared.Version.{Version}
 
 -- What a sheet says. Its masks are one flat table; of a rule it is the text, and the place where that stands on the sheet.
@@ -75,10 +76,19 @@ fromActs v s = actLines v (s .counts .fluents) (s .counts .actions) [] (λ masks
 
 -- "`sheet=1`, `fluents=NN` .., `actions=NN` .., `start=` 8 hex digits, then one line per action"
 abbrev pub fromStart : Version → Counts → Lines
-fromStart v c = line (startForm (c .fluents)) (λ start at. fromActs v (settingOf (c .fluents) (c .actions) start))
+fromStart v c = line (startForm (c .fluents)) (λ start at. fromActs v (settingOf (c .fluents) (c .actions) (c .domain) start))
+
+-- Q-2: "a line `domain=NN` .. after `actions`", where the version has it; otherwise a variable has no values
+abbrev pub domainThen : Bool → (ℕ → Lines) → Lines
+domainThen true next = line domainForm (λ domain at. next domain)
+domainThen false next = next 0
+
+abbrev pub fromDomain : Version → ℕ → ℕ → Lines
+fromDomain v fluents actions =
+    domainThen (v .valued) (λ domain. fromStart v (record { fluents = fluents; actions = actions; domain = domain }))
 
 abbrev pub fromActions : Version → ℕ → Lines
-fromActions v fluents = line actionsForm (λ actions at. fromStart v (record { fluents = fluents; actions = actions }))
+fromActions v fluents = line actionsForm (λ actions at. fromDomain v fluents actions)
 
 abbrev pub fromFluents : Version → Lines
 fromFluents v = line fluentsForm (λ fluents at. fromActions v fluents)

@@ -4,7 +4,7 @@ use mathlib.Core.List.{List}
 use Prim.Native.Nat.{ℕ, _+_, _*_, _≤_}
 use lib.ListN.{length, take, drop}
 use Rattle.refusal.specs.Number.{numberOf}
-use Rattle.meaning.specs.Limits.{fluentLimit, actionLimit}
+use Rattle.meaning.specs.Limits.{fluentLimit, actionLimit, domainLimit}
 use Rattle.theory.specs.Subject.{Subject}
 use Rattle.theory.specs.declared.Counts.{Counts}
 use Rattle.sheet.specs.Versions.{Usable}
@@ -27,6 +27,7 @@ pub record Ranged (c : Counts) : Type 0 where
   pub fewFluents : c .fluents ≤ fluentLimit
   pub someActions : 1 ≤ c .actions
   pub fewActions : c .actions ≤ actionLimit
+  pub fewValues : c .domain ≤ domainLimit
 
 -- the head is read from these lines on, and the lines of the actions come next
 pub record HeadIs (lines : Lines) (bytes : List ℕ) (at line : ℕ) (h : Head) : Type 0 where

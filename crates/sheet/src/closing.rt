@@ -46,13 +46,11 @@ fn read_more(sheet: &[u8], above: Cursor, mut said: Parsed) -> SheetAnswer
     requires { ⌜ Below (now sheet) above ⌝ }
     ensures { λ r. ⌜ ((s : Sheet) → said ≡ parsedOf s → SheetFound (fromMore s) (now (sheet .entry)) (above .end + 1) (above .line + 1) (s .subject) r) ⌝ }
 {
-    let at = above.end + 1;
-    let line = above.line + 1;
-    match line::number_line(sheet, at, line, b"more=", line::DIGIT_WIDTH, 0, MOST_MORE) {
+    match line::number_below(sheet, above, b"more=", line::DIGIT_WIDTH, 0, MOST_MORE) {
         LineAnswer::Faulty(f) => SheetAnswer::Faulty(f),
         LineAnswer::Next(c) => {
             let end = c.end + 1;
-            let below = line + 1;
+            let below = c.line + 1;
             if end < sheet.len() {
                 return SheetAnswer::Faulty(Fault {
                     refusal: Refusal::BadLine,
@@ -72,9 +70,7 @@ fn read_run(sheet: &[u8], above: Cursor, mut said: Parsed) -> SheetAnswer
 {
     let setting = said.setting;
     let counts = setting.counts;
-    let at = above.end + 1;
-    let line = above.line + 1;
-    match rules::rule_line(sheet, at, line, b"run=", Kind::Job, counts) {
+    match rules::rule_below(sheet, above, b"run=", Kind::Job, counts) {
         LineAnswer::Faulty(f) => SheetAnswer::Faulty(f),
         LineAnswer::Next(c) => {
             let run = Stretch {
@@ -94,9 +90,7 @@ fn read_ask(sheet: &[u8], above: Cursor, mut said: Parsed) -> SheetAnswer
 {
     let setting = said.setting;
     let counts = setting.counts;
-    let at = above.end + 1;
-    let line = above.line + 1;
-    match rules::rule_line(sheet, at, line, b"ask=", Kind::Test, counts) {
+    match rules::rule_below(sheet, above, b"ask=", Kind::Test, counts) {
         LineAnswer::Faulty(f) => SheetAnswer::Faulty(f),
         LineAnswer::Next(c) => {
             let ask = Stretch {

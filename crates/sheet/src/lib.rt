@@ -21,8 +21,9 @@ use theory::ACTION_LIMIT;
 use theory::STRIDE;
 use theory::Setting;
 
-// A version of the sheet: how many masks an action's line has, and how many steps its log may have.
+// A version of the sheet: whether a line says how many values a variable has, how many masks an action's line has, and how many steps its log may have.
 struct Version {
+    pub valued: bool,
     pub masks: usize,
     pub log: usize,
 }
@@ -79,8 +80,8 @@ pub enum SheetAnswer {
     Read(Parsed),
 }
 
-// Document 01: the longest sheet.
-pub const SHEET_LIMIT: usize = 3263;
+// Document 02: the longest sheet of any version.
+pub const SHEET_LIMIT: usize = 3273;
 
 // Room for the masks of as many actions as there may be, and for the steps of the longest log.
 pub const MASKS_ROOM: usize = STRIDE * ACTION_LIMIT;

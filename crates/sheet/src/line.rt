@@ -3,7 +3,7 @@ ghost use Prim.Native.Nat.{_≤_, _<_, _^_};
 ghost use lib.ListN.{length};
 ghost use Rattle.meaning.specs.Limits.{fluentLimit};
 ghost use Rattle.sheet.specs.Forms.{numberForm, startForm};
-ghost use Rattle.sheet.specs.Found.{LineFound, LineRead};
+ghost use Rattle.sheet.specs.Found.{Below, LineFound, LineRead, ReadBelow};
 use crate::Cursor;
 use crate::Fault;
 use crate::LineAnswer;
@@ -13,7 +13,7 @@ use spelling::WORD_WIDTH;
 use spelling::scan;
 use theory::faults;
 
-// The version and *more* have one digit, a count has two.
+// The version and *more* have one digit, a count and the domain have two.
 pub(crate) const DIGIT_WIDTH: usize = 1;
 
 pub(crate) const COUNT_WIDTH: usize = 2;
@@ -41,7 +41,7 @@ pub(crate) fn line_at(sheet: &[u8], at: usize, line: usize, key: &[u8]) -> LineA
     })
 }
 
-// A line that says a number of so many decimal digits in a range: the version, a count, *more*.
+// A line that says a number of so many decimal digits in a range: the version, a count, the domain, *more*.
 pub(crate) fn number_line(
     sheet: &[u8],
     at: usize,
@@ -82,6 +82,23 @@ pub(crate) fn number_line(
             }
         }
     }
+}
+
+// The same of the line below another.
+pub(crate) fn number_below(
+    sheet: &[u8],
+    above: Cursor,
+    key: &[u8],
+    width: usize,
+    low: u32,
+    high: u32,
+) -> LineAnswer
+    requires { ⌜ Below (now sheet) above × (high < 10 ^ width) × (10 ^ width ≤ 2 ^ 32) ⌝ }
+    ensures { λ r. ⌜ ReadBelow (numberForm (now (key .entry)) width low high) (now (sheet .entry)) above (λ c. c .number) r ⌝ }
+{
+    let at = above.end + 1;
+    let line = above.line + 1;
+    number_line(sheet, at, line, key, width, low, high)
 }
 
 // The start state.

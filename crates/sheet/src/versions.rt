@@ -6,14 +6,22 @@ use positions::PositionSet;
 use theory::STRIDE;
 
 // The newest version that there is.
-pub(crate) const NEWEST: u32 = 1;
+pub(crate) const NEWEST: u32 = 2;
 
 // The row of a version's number.
 pub(crate) fn version_of(number: u32) -> Version
     ensures { λ r. ⌜ r ≡ versionOf number ⌝ }
 {
-    Version {
-        masks: STRIDE,
-        log: PositionSet::LOG_LIMIT,
+    match number {
+        2 => Version {
+            valued: true,
+            masks: STRIDE,
+            log: PositionSet::LOG_LIMIT,
+        },
+        _ => Version {
+            valued: false,
+            masks: STRIDE,
+            log: PositionSet::LOG_LIMIT,
+        },
     }
 }

@@ -8,9 +8,9 @@ use native.Mathlib.Omega.{arith}
 use lib.ListN.{length}
 use Rattle.meaning.specs.Limits.{actionLimit}
 use Rattle.meaning.specs.Theory.{stride}
-use Rattle.meaning.specs.Refusal.{Accepted, BadCounts, BadTable}
+use Rattle.meaning.specs.Refusal.{Accepted, BadTable}
 use Rattle.meaning.proofs.Refusal.{not-first}
-use Rattle.theory.specs.Rows.{theoryRows}
+use Rattle.theory.specs.Rows.{CountsOut, theoryRows}
 use Rattle.theory.specs.declared.Setting.{Setting}
 
 pub record Sound (s : Setting) (masks : List ℕ) : Type 0 where
@@ -20,8 +20,8 @@ pub record Sound (s : Setting) (masks : List ℕ) : Type 0 where
 pub sound : (s : Setting) (masks : List ℕ) → Accepted (theoryRows s masks) → Sound s masks
 sound s masks a =
     let actions : ℕ = s .counts .actions in
-    let counted : BadCounts (s .counts .fluents) actions ⊎ BadTable actions masks → ⊥ = not-first a in
-    let fits : ¬ (actionLimit < actions) = λ h. counted (inl (inr (inr h))) in
+    let counted : CountsOut (s .counts) ⊎ BadTable actions masks → ⊥ = not-first a in
+    let fits : ¬ (actionLimit < actions) = λ h. counted (inl (inl (inr (inr h)))) in
     record {
       fewActions = omega arith;
       table = elim (ℕ-discrete (length masks) (stride * actions)) [ yes e ↦ e | no ne ↦ absurd (counted (inr ne)) ];

@@ -13,7 +13,7 @@ use Rattle.meaning.specs.Leads.{AnyStep, Chain, stay, link, Leads, Holds}
 use Rattle.meaning.proofs.Theory.{getElem-getD}
 use Rattle.meaning.proofs.Possible.{possible, possible-tells}
 use Rattle.meaning.proofs.Converse.{converse}
-use Rattle.meaning.specs.Rule.{act, next, seq, star}
+use Rattle.meaning.specs.Rule.{plain, act, next, seq, star}
 use Rattle.theory.specs.Tables.{TakenAt}
 use Rattle.tally.specs.Record.{Last, ImpossibleAt}
 use Rattle.tally.specs.Made.{happenedTest}
@@ -58,11 +58,11 @@ module _ (w : World) (a : ℕ) {place impossible : ℕ} (last : Last (λ p. Take
   n = length (w .log)
 
   -- a is taken at some step, and every step behind it was possible
-  walked : impossible < place → (q : ℕ) × Leads w (seq (act a) (star next)) q n n
+  walked : impossible < place → (q : ℕ) × Leads w (seq (act (plain a)) (star next)) q n n
   unfolding Leads
   walked h = ⊎-elim (λ none. absurd (omega arith)) found (last .there)
     where
-      found : (p : ℕ) × (place ≡ p + 1) × TakenAt w p a → (q : ℕ) × Leads w (seq (act a) (star next)) q n n
+      found : (p : ℕ) × (place ≡ p + 1) × TakenAt w p a → (q : ℕ) × Leads w (seq (act (plain a)) (star next)) q n n
       found (p, e, taken) =
           let inside = taken-within w p a taken in (
             p,
@@ -74,7 +74,7 @@ module _ (w : World) (a : ℕ) {place impossible : ℕ} (last : Last (λ p. Take
             ),
           )
 
-  back : (q : ℕ) × Leads w (seq (act a) (star next)) q n n → impossible < place
+  back : (q : ℕ) × Leads w (seq (act (plain a)) (star next)) q n n → impossible < place
   unfolding Leads
   back (q, (m, step, chain)) =
       let here = last .behind q (step .logged, step .able) in
@@ -91,6 +91,6 @@ module _ (w : World) (a : ℕ) {place impossible : ℕ} (last : Last (λ p. Take
   pub happened-iff : (impossible < place) ↔ Holds w (happenedTest a) n n
   unfolding Holds
   happened-iff = (
-    λ h. let (q, leads) = walked h in (q, converse w (seq (act a) (star next)) n q n .1 leads, tt),
-    λ h. back (h .0, converse w (seq (act a) (star next)) n (h .0) n .0 (h .1)),
+    λ h. let (q, leads) = walked h in (q, converse w (seq (act (plain a)) (star next)) n q n .1 leads, tt),
+    λ h. back (h .0, converse w (seq (act (plain a)) (star next)) n (h .0) n .0 (h .1)),
   )

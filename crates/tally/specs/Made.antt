@@ -1,7 +1,7 @@
 -- Request Q-5, what its equalities are about: "a record the library made from that log and theory, afresh or by appends", and the test that the quick yes stands for.
 use mathlib.Core.List.{List, [], _∷_, _++_}
 use Prim.Native.Nat.{ℕ}
-use Rattle.meaning.specs.Rule.{Test, act, next, seq, star, conv, always, diamond}
+use Rattle.meaning.specs.Rule.{Test, plain, act, next, seq, star, conv, always, diamond}
 use Rattle.theory.specs.Subject.{subjectOf}
 use Rattle.theory.specs.declared.Setting.{Setting}
 use Rattle.tally.specs.Calls.{Remade, Appended}
@@ -14,4 +14,4 @@ pub data Made (s : Setting) (masks : List ℕ) : List ℕ → Tally → Type 0 w
 
 -- `<-;aNN*n1`: "has NN happened, with only possible steps since"
 abbrev pub happenedTest : ℕ → Test
-happenedTest a = diamond (conv (seq (act a) (star next))) always
+happenedTest a = diamond (conv (seq (act (plain a)) (star next))) always

@@ -1,18 +1,18 @@
--- Document 01, "Numbers of refusal", for the inputs that every call about a world has: the counts and the mask table (3), the masks (4) and the log (5);
+-- Document 01, "Numbers of refusal", for the inputs that every call about a world has: counts, domain and mask table (3), the masks (4) and the log (5);
 -- and the rows of the call for the state at a position.
 use mathlib.Core.List.{List, [], _∷_, _++_}
 use mathlib.Core.Logic.{_⊎_}
 use Prim.Native.Nat.{ℕ, _<_}
 use lib.ListN.{length}
 use Rattle.meaning.specs.Limits.{logLimit}
-use Rattle.meaning.specs.Refusal.{Row, _when_, BadCounts, BadTable, BadMasks, BadLog}
+use Rattle.meaning.specs.Refusal.{Row, _when_, BadCounts, BadDomain, BadTable, BadMasks, BadLog}
 use Rattle.theory.specs.Subject.{Subject, countsOf}
 use Rattle.theory.specs.declared.Counts.{Counts}
 use Rattle.theory.specs.declared.Setting.{Setting}
 
--- 3: a count out of its range
+-- 3: a count out of its range, or "for a bad domain"
 abbrev pub CountsOut : Counts → Type 0
-CountsOut c = BadCounts (c .fluents) (c .actions)
+CountsOut c = BadCounts (c .fluents) (c .actions) ⊎ BadDomain (c .domain)
 
 abbrev pub theoryRows : Setting → List ℕ → List {1} Row
 theoryRows s masks =

@@ -4,12 +4,16 @@ use mathlib.Core.List.{List}
 use Prim.Native.Nat.{ℕ, _+_, _*_, _≤_, _<_}
 use lib.ListN.{length, getD}
 use Rattle.meaning.specs.Limits.{actionLimit, logLimit}
-use Rattle.meaning.specs.Theory.{Masks, World, masksOf, stride}
+use Rattle.meaning.specs.Theory.{Masks, World, masksOf, noValues, stride}
 use Rattle.theory.specs.declared.Counts.{Counts}
 use Rattle.theory.specs.declared.Setting.{Setting}
 
-abbrev pub settingOf : ℕ → ℕ → ℕ → Setting
-settingOf fluents actions start = record { counts = record { fluents = fluents; actions = actions }; start = start }
+abbrev pub settingOf : ℕ → ℕ → ℕ → ℕ → Setting
+settingOf fluents actions domain start = record { counts = record { fluents = fluents; actions = actions; domain = domain }; start = start }
+
+-- "calls without a rule .. have none": the same with no values for a variable
+abbrev pub unvalued : Setting → Setting
+unvalued s = settingOf (s .counts .fluents) (s .counts .actions) 0 (s .start)
 
 -- A later request that varies what a call is asked of adds a field to Setting, or one here.
 pub record Subject : Type 0 where
@@ -35,6 +39,8 @@ worldOf s =
       actions = countsOf s .actions;
       masks = tableMasks (s .masks);
       start = s .setting .start;
+      domain = countsOf s .domain;
+      values = noValues;
       log = s .log;
     }
 

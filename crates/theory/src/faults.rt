@@ -14,25 +14,30 @@ ghost use Rattle.theory.specs.Union.{Union};
 use crate::ACTION_LIMIT;
 use crate::Check;
 use crate::Counts;
+use crate::DOMAIN_LIMIT;
 use crate::FLUENT_LIMIT;
 use crate::STRIDE;
 use crate::Setting;
 use positions::PositionSet;
 use refusal::Refusal;
 
-// A count is out of its range.
+// A count is out of its range, or the domain.
 pub fn bad_counts(counts: Counts) -> bool
     ensures { λ r. ⌜ (r ≡ true) ↔ CountsOut counts ⌝ }
 {
     let fluents = counts.fluents;
     let actions = counts.actions;
+    let domain = counts.domain;
     if FLUENT_LIMIT < fluents {
         return true;
     }
     if actions < 1 {
         return true;
     }
-    ACTION_LIMIT < actions
+    if ACTION_LIMIT < actions {
+        return true;
+    }
+    DOMAIN_LIMIT < domain
 }
 
 // All fluents that the masks name, in one mask.

@@ -1,6 +1,7 @@
 // States, actions and logs: whether an action is possible, what it does, the state at a position, and which refusal a theory or a log has. Knows no
 // rule and no sheet.
-ghost use Rattle.theory.specs.Subject.{subjectOf};
+ghost use mathlib.Core.Path.{_≡_};
+ghost use Rattle.theory.specs.Subject.{subjectOf, unvalued as withoutValues};
 ghost use Rattle.theory.specs.Answer.{numberGiven, stateGiven, StateAnswered};
 ghost use Rattle.theory.specs.Possible;
 ghost use Rattle.theory.specs.Possible.{verdictGiven, PossibleAnswered};
@@ -19,10 +20,15 @@ pub const ACTION_LIMIT: usize = 64;
 
 pub const STRIDE: usize = 4;
 
-// How many fluents and actions a theory has: what a rule is read against. A struct, so that the two are told apart by their names.
+// "`domain=NN` (01 to 16)": the values that a variable can have.
+pub const DOMAIN_LIMIT: usize = 16;
+
+// How many fluents and actions a theory has, and how many values a variable: what a rule is read against. A struct, so that they are told apart by their
+// names. A domain of 0 is a call without variables.
 pub struct Counts {
     pub fluents: usize,
     pub actions: usize,
+    pub domain: usize,
 }
 
 // What a call is asked of, but for its mask table and its log: plain numbers, by value.
@@ -50,11 +56,28 @@ pub enum PossibleAnswer {
     No,
 }
 
+// A call without a rule has no variables, and does not look at the domain.
+fn unvalued(s: Setting) -> Setting
+    ensures { λ r. ⌜ r ≡ withoutValues s ⌝ }
+{
+    let given = s.counts;
+    let counts = Counts {
+        fluents: given.fluents,
+        actions: given.actions,
+        domain: 0,
+    };
+    Setting {
+        counts,
+        start: s.start,
+    }
+}
+
 // The state at a position of the log.
 pub fn state(s: Setting, masks: &[u32], log: &[u8], position: usize) -> StateAnswer
-    ensures { λ r. ⌜ StateAnswered (subjectOf s (now (masks .entry)) (now (log .entry))) position (numberGiven r) (stateGiven r) ⌝ }
+    ensures { λ r. ⌜ StateAnswered (subjectOf (withoutValues s) (now (masks .entry)) (now (log .entry))) position (numberGiven r) (stateGiven r) ⌝ }
 {
-    match faults::check_world(s, masks, log) {
+    let plain = unvalued(s);
+    match faults::check_world(plain, masks, log) {
         Check::Refused(r) => StateAnswer::Refused(r),
         Check::Sound => {
             if log.len() < position {
@@ -73,9 +96,10 @@ pub fn possible(
     action: usize,
     position: usize,
 ) -> PossibleAnswer
-    ensures { λ r. ⌜ PossibleAnswered (subjectOf s (now (masks .entry)) (now (log .entry))) action position (Possible.numberGiven r) (verdictGiven r) ⌝ }
+    ensures { λ r. ⌜ PossibleAnswered (subjectOf (withoutValues s) (now (masks .entry)) (now (log .entry))) action position (Possible.numberGiven r) (verdictGiven r) ⌝ }
 {
-    match faults::check_world(s, masks, log) {
+    let plain = unvalued(s);
+    match faults::check_world(plain, masks, log) {
         Check::Refused(r) => PossibleAnswer::Refused(r),
         Check::Sound => {
             let counts = s.counts;

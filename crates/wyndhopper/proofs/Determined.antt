@@ -47,10 +47,10 @@ unfolding parsed-in
 read-same {p} e = ap (parsed-in p) e
 
 -- the bytes spell one walk of a kind, and one test
-one-walk : {kind : Kind} {bytes : List ℕ} {x y : Walk} → Opens kind bytes (ofWalk x) [] → Opens kind bytes (ofWalk y) [] → x ≡ y
+pub one-walk : {kind : Kind} {bytes : List ℕ} {x y : Walk} → Opens kind bytes (ofWalk x) [] → Opens kind bytes (ofWalk y) [] → x ≡ y
 one-walk o p = let e = unique-reading o p .0 in cc
 
-one-test : {bytes : List ℕ} {t u : Test} → Opens testKind bytes (ofTest t) [] → Opens testKind bytes (ofTest u) [] → t ≡ u
+pub one-test : {bytes : List ℕ} {t u : Test} → Opens testKind bytes (ofTest t) [] → Opens testKind bytes (ofTest u) [] → t ≡ u
 one-test o p = let e = unique-reading o p .0 in cc
 
 -- a slot has what its verdict is

@@ -2,3 +2,4 @@ pub mod Slots
 pub mod Numbered
 pub mod Determined
 pub mod Tally
+pub mod Written

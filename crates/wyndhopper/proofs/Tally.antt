@@ -1,20 +1,20 @@
 -- Request Q-5, about the calls: the quick yes of a record "the library made from that log and theory" "equals the test's verdict". What `wyh_happened` answers for it,
--- `wyh_verdict` answers for `<-;aNN*n1` at the log's end, number and slot.
-use mathlib.Core.Path.{_≡_, refl, subst}
+-- `wyh_verdict` answers for `<-;aNN*n1` at the log's end, number and slot, whichever domain it is given (request Q-2): the test has no variable.
+use mathlib.Core.Path.{_≡_, refl, sym, subst}
 use mathlib.Core.Logic.{_⊎_, _↔_, inl, inr, ⊎-elim}
-use mathlib.Core.Bool.{Bool, true}
+use mathlib.Core.Bool.{Bool, true, true≢false}
 use mathlib.Core.List.{List, [], _++_, cons≢nil}
 use mathlib.Core.Option.{Option}
 use Prim.Native.Nat.{ℕ, _≤_, _<_}
 use native.Mathlib.Omega.{arith}
 use lib.ListN.{length, getD}
-use Rattle.meaning.specs.Limits.{actionLimit, numberLimit}
-use Rattle.meaning.specs.Rule.{Rule, ofTest, testKind, Opens, testText, testDepth, testNames}
+use Rattle.meaning.specs.Limits.{actionLimit, domainLimit, numberLimit}
+use Rattle.meaning.specs.Rule.{Rule, ofTest, testKind, Opens, testText, testDepth, testNames, testFree, testVaries}
 use Rattle.meaning.specs.Leads.{Holds}
-use Rattle.meaning.specs.Refusal.{Row, Accepted, BadRule, BadNames, TooDeep, BadJob}
+use Rattle.meaning.specs.Refusal.{Row, Accepted, BadRule, BadNames, TooDeep, BadJob, Unbound}
 use Rattle.meaning.proofs.Reading.{unique-reading}
 use Rattle.meaning.proofs.Refusal.{past, passes, accepts, rest-refused, refused-first, refused-second, accepted-both, not-first, not-rest}
-use Rattle.theory.specs.Subject.{Subject, subjectOf, countsOf, worldOf}
+use Rattle.theory.specs.Subject.{Subject, subjectOf, unvalued, countsOf, worldOf}
 use Rattle.theory.specs.Rows.{worldRows}
 use Rattle.theory.specs.declared.Setting.{Setting}
 use Rattle.theory.proofs.Reading.{checked}
@@ -46,18 +46,18 @@ module _ (s : Subject) (a : ℕ) (writable : a < numberLimit) where
   of-it : {Fault : Rule → Type 0} → With (λ r. Opens testKind bytes r []) Fault → Fault (ofTest (happenedTest a))
   of-it {Fault} x = subst Fault (unique-reading (x .spells) spelled .0) (x .faulty)
 
-  no-bad-rule : BadRule testKind bytes → ⊥
-  unfolding testText
-  no-bad-rule = ⊎-elim (λ e. cons≢nil e) (⊎-elim (λ h. omega arith) (λ none. none (ofTest (happenedTest a)) spelled))
+  no-bad-rule : {domain : ℕ} → BadRule domain testKind bytes → ⊥
+  unfolding testText testVaries
+  no-bad-rule = ⊎-elim (λ e. cons≢nil e) (⊎-elim (λ h. omega arith) (λ none. none (ofTest (happenedTest a)) spelled (λ empty. refl)))
 
-  -- of that test: which actions it needs to be known, and that it is not deep and no job
-  lacks : {fluents actions : ℕ} → actions ≤ a → BadNames fluents actions (ofTest (happenedTest a))
+  -- of that test: which actions it needs to be known, and that it is not deep, no job and without variables
+  lacks : (domain : ℕ) {fluents actions : ℕ} → actions ≤ a → BadNames domain fluents actions (ofTest (happenedTest a))
   unfolding testNames
-  lacks h = inl (omega arith)
+  lacks domain h = inl (omega arith)
 
-  knows : {fluents actions : ℕ} → a < actions → BadNames fluents actions (ofTest (happenedTest a)) → ⊥
+  knows : (domain : ℕ) {fluents actions : ℕ} → a < actions → BadNames domain fluents actions (ofTest (happenedTest a)) → ⊥
   unfolding testNames
-  knows h = ⊎-elim (λ l. omega arith) (λ l. omega arith)
+  knows domain h = ⊎-elim (λ l. omega arith) (λ l. omega arith)
 
   shallow : TooDeep (ofTest (happenedTest a)) → ⊥
   unfolding testDepth
@@ -65,6 +65,10 @@ module _ (s : Subject) (a : ℕ) (writable : a < numberLimit) where
 
   no-job : BadJob testKind (ofTest (happenedTest a)) → ⊥
   no-job x = test-no-job (x .0)
+
+  bound : Unbound (ofTest (happenedTest a)) → ⊥
+  unfolding testFree
+  bound x = true≢false (sym (x .free))
 
   abbrev n : ℕ
   n = length (s .log)
@@ -86,7 +90,7 @@ module _ (s : Subject) (a : ℕ) (writable : a < numberLimit) where
             refused-second (worldRows s) rest accepted
             (refused-first (textRows true testKind bytes (countsOf s)) (timeRows s n n)
             (past no-bad-rule
-            (record { first = ⊎-elim (λ h. inl (h .0, record { rule = ofTest (happenedTest a); spells = spelled; faulty = lacks (h .1) })) (λ h. absurd (h .1)) unknown })));
+            (record { first = ⊎-elim (λ h. inl (h .0, record { rule = ofTest (happenedTest a); spells = spelled; faulty = lacks (countsOf s .domain) (h .1) })) (λ h. absurd (h .1)) unknown })));
         blank = r .blank;
       })
   as-verdict last impossible accepted tells (inr r) =
@@ -98,7 +102,7 @@ module _ (s : Subject) (a : ℕ) (writable : a < numberLimit) where
         accepted =
             accepted-both (worldRows s) rest accepted
             (accepted-both (textRows true testKind bytes (countsOf s)) (timeRows s n n)
-            (passes no-bad-rule (passes (λ x. knows (omega arith) (of-it x)) (passes (λ x. shallow (of-it x)) (passes (λ x. no-job (of-it x)) accepts))))
+            (passes no-bad-rule (passes (λ x. knows (countsOf s .domain) (omega arith) (of-it x)) (passes (λ x. shallow (of-it x)) (passes (λ x. no-job (of-it x)) (passes (λ x. bound (of-it x)) accepts)))))
             (passes (⊎-elim (λ h. omega arith) (λ h. omega arith)) accepts));
         right = record {
           test = happenedTest a;
@@ -107,13 +111,25 @@ module _ (s : Subject) (a : ℕ) (writable : a < numberLimit) where
         };
       })
 
-pub happened-is-verdict : {s : Setting} {masks log : List ℕ} {t : Tally} → Made s masks log t → (a : ℕ) → a < numberLimit → {number number′ yes yes′ : ℕ}
+-- a theory that is accepted without values is accepted with as many as a variable may have
+valued : (s : Setting) (masks log : List ℕ) → s .counts .domain ≤ domainLimit → Accepted (worldRows (subjectOf (unvalued s) masks log))
+    → Accepted (worldRows (subjectOf s masks log))
+valued s masks log few a =
+    passes (⊎-elim (⊎-elim (λ h. not-first a (inl (inl h))) (λ h. omega arith)) (λ h. not-first a (inr h))) (not-rest a)
+
+pub happened-is-verdict : {s : Setting} {masks log : List ℕ} {t : Tally} → s .counts .domain ≤ domainLimit → Made (unvalued s) masks log t
+    → (a : ℕ) → a < numberLimit → {number number′ yes yes′ : ℕ}
     → InSlot (HappenedAnswered (s .counts .actions) (t .last) (t .impossible) a number) yes
     → InSlot (VerdictAnswered (subjectOf s masks log) (happenedText a) (length log) (length log) number′) yes′
     → (number ≡ number′) × (yes ≡ yes′)
-happened-is-verdict {s} {masks} {log} {t} made a writable x y =
+happened-is-verdict {s} {masks} {log} {t} few made a writable x y =
     let asked = subjectOf s masks log in
     let k = made-kept made in
-    let few = checked asked (k .accepted) .fewActions in
+    let accepted = valued s masks log few (k .accepted) in
+    let known = checked asked accepted .fewActions in
     wyh-verdict-determined asked (happenedText a) (length log) (length log)
-    (record { verdict = x .verdict; written = x .written; said = as-verdict asked a writable (t .last) (t .impossible) (k .accepted) (λ known. happened-iff (worldOf asked) a (k .tally .actions a (omega arith) .latest) (k .tally .impossible)) (x .said) }) y
+    (record {
+      verdict = x .verdict;
+      written = x .written;
+      said = as-verdict asked a writable (t .last) (t .impossible) accepted (λ named. happened-iff (worldOf asked) a (k .tally .actions a (omega arith) .latest) (k .tally .impossible)) (x .said);
+    }) y

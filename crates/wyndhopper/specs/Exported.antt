@@ -17,11 +17,11 @@ use Rattle.sheet.specs.declared.Parsed.{Parsed}
 use Rattle.wyndhopper.specs.Kinds.{kindAt, noKindRows}
 
 -- the counts and what is asked of, from the loose numbers of an exported call
-abbrev pub counted : ℕ → ℕ → Counts
-counted fluents actions = record { fluents = fluents; actions = actions }
+abbrev pub counted : ℕ → ℕ → ℕ → Counts
+counted fluents actions domain = record { fluents = fluents; actions = actions; domain = domain }
 
-abbrev pub asked : ℕ → ℕ → ℕ → List ℕ → List ℕ → Subject
-asked fluents actions start masks log = subjectOf (settingOf fluents actions start) masks log
+abbrev pub asked : ℕ → ℕ → ℕ → ℕ → List ℕ → List ℕ → Subject
+asked fluents actions domain start masks log = subjectOf (settingOf fluents actions domain start) masks log
 
 -- a verdict in a slot: 1 for yes, 0 for no; 0 on a refusal too
 abbrev pub slotOf : Option Bool → ℕ
@@ -56,15 +56,16 @@ NormalBy none bytes counts before number count after = Refused (noKindRows count
 abbrev pub NormalExported : ℕ → List ℕ → Counts → List ℕ → ℕ → ℕ → List ℕ → Type 0
 NormalExported kind bytes counts before number count after = NormalBy (kindAt kind) bytes counts before number count after
 
--- A sheet in numbers: the line of its refusal; or, behind a 0, fluents, actions, start, the log's steps, where ask and run begin and end, more.
+-- A sheet in numbers: the line of its refusal; or, behind a 0, fluents, actions, domain, start, the log's steps, where ask and run begin and end, more.
 abbrev pub lineNumbers : ℕ → List ℕ
-lineNumbers place = place ∷ 0 ∷ 0 ∷ 0 ∷ 0 ∷ 0 ∷ 0 ∷ 0 ∷ 0 ∷ 0 ∷ []
+lineNumbers place = place ∷ 0 ∷ 0 ∷ 0 ∷ 0 ∷ 0 ∷ 0 ∷ 0 ∷ 0 ∷ 0 ∷ 0 ∷ []
 
 abbrev pub numbersOf : Parsed → List ℕ
 numbersOf p =
     0
     ∷ p .setting .counts .fluents
     ∷ p .setting .counts .actions
+    ∷ p .setting .counts .domain
     ∷ p .setting .start
     ∷ p .steps
     ∷ p .ask .start

@@ -1,5 +1,6 @@
 // The library for programs in other languages: each function is thin over a proved call and promises what that call promises. A slice is a pointer and a
-// length in C; a number beside the refusal is a lent slot, which is always written. Nothing is kept between calls.
+// length in C; a number beside the refusal is a lent slot, which is always written. A call that takes a rule has the domain of its variables, 0 where it has
+// none; a call without a rule has no domain. Nothing is kept between calls.
 ghost use Rattle.theory.specs.Subject.{settingOf};
 ghost use Rattle.theory.specs.Answer.{StateAnswered};
 ghost use Rattle.theory.specs.Possible.{PossibleAnswered};
@@ -29,8 +30,8 @@ use theory::PossibleAnswer;
 use theory::Setting;
 use theory::StateAnswer;
 
-// How many numbers a sheet is told in: its line where it is refused, fluents, actions, start, the log's steps, where ask and run begin and end, more.
-pub const SHEET_NUMBERS: usize = 10;
+// How many numbers a sheet is told in: its line where it is refused, fluents, actions, domain, start, the log's steps, where ask and run begin and end, more.
+pub const SHEET_NUMBERS: usize = 11;
 
 // The state at a position of the log.
 #[no_mangle]
@@ -43,9 +44,13 @@ pub extern "C" fn wyh_state(
     position: usize,
     state: &mut u32,
 ) -> u8
-    ensures { λ r. ⌜ StateAnswered (asked fluents actions start (now (masks .entry)) (now (log .entry))) position r (now (state .exit)) ⌝ }
+    ensures { λ r. ⌜ StateAnswered (asked fluents actions 0 start (now (masks .entry)) (now (log .entry))) position r (now (state .exit)) ⌝ }
 {
-    let counts = Counts { fluents, actions };
+    let counts = Counts {
+        fluents,
+        actions,
+        domain: 0,
+    };
     let s = Setting { counts, start };
     match theory::state(s, masks, log, position) {
         StateAnswer::Refused(why) => {
@@ -71,9 +76,13 @@ pub extern "C" fn wyh_possible(
     position: usize,
     yes: &mut u8,
 ) -> u8
-    ensures { λ r. ⌜ InSlot (PossibleAnswered (asked fluents actions start (now (masks .entry)) (now (log .entry))) action position r) (now (yes .exit)) ⌝ }
+    ensures { λ r. ⌜ InSlot (PossibleAnswered (asked fluents actions 0 start (now (masks .entry)) (now (log .entry))) action position r) (now (yes .exit)) ⌝ }
 {
-    let counts = Counts { fluents, actions };
+    let counts = Counts {
+        fluents,
+        actions,
+        domain: 0,
+    };
     let s = Setting { counts, start };
     match theory::possible(s, masks, log, action, position) {
         PossibleAnswer::Refused(why) => {
@@ -96,6 +105,7 @@ pub extern "C" fn wyh_possible(
 pub extern "C" fn wyh_reach(
     fluents: usize,
     actions: usize,
+    domain: usize,
     start: u32,
     masks: &[u32],
     log: &[u8],
@@ -106,9 +116,13 @@ pub extern "C" fn wyh_reach(
     count: &mut u32,
     earliest: &mut u32,
 ) -> u8
-    ensures { λ r. ⌜ ReachAnswered (asked fluents actions start (masks .entry .now) (log .entry .now)) (walk .entry .now) then now r (set .exit .now) (count .exit .now) (earliest .exit .now) ⌝ }
+    ensures { λ r. ⌜ ReachAnswered (asked fluents actions domain start (masks .entry .now) (log .entry .now)) (walk .entry .now) then now r (set .exit .now) (count .exit .now) (earliest .exit .now) ⌝ }
 {
-    let counts = Counts { fluents, actions };
+    let counts = Counts {
+        fluents,
+        actions,
+        domain,
+    };
     let s = Setting { counts, start };
     match ask::reach(s, masks, log, walk, then, now) {
         ReachAnswer::Refused(why) => {
@@ -135,6 +149,7 @@ pub extern "C" fn wyh_reach(
 pub extern "C" fn wyh_verdict(
     fluents: usize,
     actions: usize,
+    domain: usize,
     start: u32,
     masks: &[u32],
     log: &[u8],
@@ -143,9 +158,13 @@ pub extern "C" fn wyh_verdict(
     now: usize,
     yes: &mut u8,
 ) -> u8
-    ensures { λ r. ⌜ InSlot (VerdictAnswered (asked fluents actions start (masks .entry .now) (log .entry .now)) (test .entry .now) then now r) (yes .exit .now) ⌝ }
+    ensures { λ r. ⌜ InSlot (VerdictAnswered (asked fluents actions domain start (masks .entry .now) (log .entry .now)) (test .entry .now) then now r) (yes .exit .now) ⌝ }
 {
-    let counts = Counts { fluents, actions };
+    let counts = Counts {
+        fluents,
+        actions,
+        domain,
+    };
     let s = Setting { counts, start };
     match ask::verdict(s, masks, log, test, then, now) {
         VerdictAnswer::Refused(why) => {
@@ -168,6 +187,7 @@ pub extern "C" fn wyh_verdict(
 pub extern "C" fn wyh_finish(
     fluents: usize,
     actions: usize,
+    domain: usize,
     start: u32,
     masks: &[u32],
     log: &[u8],
@@ -176,9 +196,13 @@ pub extern "C" fn wyh_finish(
     out: &mut [u8],
     count: &mut usize,
 ) -> u8
-    ensures { λ r. ⌜ FinishAnswered (asked fluents actions start (now (masks .entry)) (now (log .entry))) (now (job .entry)) more (now (out .entry)) r (now (count .exit)) (now (out .exit)) ⌝ }
+    ensures { λ r. ⌜ FinishAnswered (asked fluents actions domain start (now (masks .entry)) (now (log .entry))) (now (job .entry)) more (now (out .entry)) r (now (count .exit)) (now (out .exit)) ⌝ }
 {
-    let counts = Counts { fluents, actions };
+    let counts = Counts {
+        fluents,
+        actions,
+        domain,
+    };
     let s = Setting { counts, start };
     match finish::finish(s, masks, log, job, more, out) {
         FinishAnswer::Refused(why) => {
@@ -197,15 +221,20 @@ pub extern "C" fn wyh_finish(
 pub extern "C" fn wyh_next(
     fluents: usize,
     actions: usize,
+    domain: usize,
     start: u32,
     masks: &[u32],
     log: &[u8],
     job: &[u8],
     next: &mut u64,
 ) -> u8
-    ensures { λ r. ⌜ NextAnswered (asked fluents actions start (now (masks .entry)) (now (log .entry))) (now (job .entry)) r (now (next .exit)) ⌝ }
+    ensures { λ r. ⌜ NextAnswered (asked fluents actions domain start (now (masks .entry)) (now (log .entry))) (now (job .entry)) r (now (next .exit)) ⌝ }
 {
-    let counts = Counts { fluents, actions };
+    let counts = Counts {
+        fluents,
+        actions,
+        domain,
+    };
     let s = Setting { counts, start };
     match finish::next(s, masks, log, job) {
         NextAnswer::Refused(why) => {
@@ -226,11 +255,16 @@ pub extern "C" fn wyh_read_rule(
     kind: u8,
     fluents: usize,
     actions: usize,
+    domain: usize,
     rest: &mut usize,
 ) -> u8
-    ensures { λ r. ⌜ RestExported kind (now (text .entry)) (counted fluents actions) r (now (rest .exit)) ⌝ }
+    ensures { λ r. ⌜ RestExported kind (now (text .entry)) (counted fluents actions domain) r (now (rest .exit)) ⌝ }
 {
-    let counts = Counts { fluents, actions };
+    let counts = Counts {
+        fluents,
+        actions,
+        domain,
+    };
     kinds::read(text, kind, counts, rest)
 }
 
@@ -241,12 +275,17 @@ pub extern "C" fn wyh_normal(
     kind: u8,
     fluents: usize,
     actions: usize,
+    domain: usize,
     out: &mut [u8],
     count: &mut usize,
 ) -> u8
-    ensures { λ r. ⌜ NormalExported kind (now (text .entry)) (counted fluents actions) (now (out .entry)) r (now (count .exit)) (now (out .exit)) ⌝ }
+    ensures { λ r. ⌜ NormalExported kind (now (text .entry)) (counted fluents actions domain) (now (out .entry)) r (now (count .exit)) (now (out .exit)) ⌝ }
 {
-    let counts = Counts { fluents, actions };
+    let counts = Counts {
+        fluents,
+        actions,
+        domain,
+    };
     kinds::normal(text, kind, counts, out, count)
 }
 
@@ -270,7 +309,7 @@ pub extern "C" fn wyh_read_sheet(
 {
     match sheet::read_sheet(sheet, masks, log) {
         SheetAnswer::Faulty(f) => {
-            *numbers = [f.line, 0, 0, 0, 0, 0, 0, 0, 0, 0];
+            *numbers = [f.line, 0, 0, 0, 0, 0, 0, 0, 0, 0, 0];
             let why = f.refusal;
             refusal::number(why)
         }
@@ -284,6 +323,7 @@ pub extern "C" fn wyh_read_sheet(
                 0,
                 counts.fluents,
                 counts.actions,
+                counts.domain,
                 start,
                 p.steps,
                 ask.start,
@@ -307,7 +347,7 @@ pub extern "C" fn wyh_tally(
     log: &[u8],
     tally: &mut Tally,
 ) -> u8
-    ensures { λ r. ⌜ Remade (asked fluents actions start (now (masks .entry)) (now (log .entry))) (now (tally .entry)) r (now (tally .exit)) ⌝ }
+    ensures { λ r. ⌜ Remade (asked fluents actions 0 start (now (masks .entry)) (now (log .entry))) (now (tally .entry)) r (now (tally .exit)) ⌝ }
 {
     tally::reset(fluents, actions, start, masks, log, tally)
 }
@@ -322,7 +362,7 @@ pub extern "C" fn wyh_append(
     tally: &mut Tally,
     action: usize,
 ) -> u8
-    ensures { λ r. ⌜ Appended (settingOf fluents actions start) (now (masks .entry)) (now (tally .entry)) action r (now (tally .exit)) ⌝ }
+    ensures { λ r. ⌜ Appended (settingOf fluents actions 0 start) (now (masks .entry)) (now (tally .entry)) action r (now (tally .exit)) ⌝ }
 {
     tally::append(fluents, actions, start, masks, tally, action)
 }

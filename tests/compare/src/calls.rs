@@ -49,6 +49,7 @@ pub fn reach(i: &Input, walk: &[u8], then: usize, now: usize) -> (u8, u64, u32, 
         raw::wyh_reach(
             i.fluents,
             i.actions,
+            i.domain,
             i.start,
             i.masks.as_ptr(),
             i.masks.len(),
@@ -72,6 +73,7 @@ pub fn verdict(i: &Input, test: &[u8], then: usize, now: usize) -> (u8, u8) {
         raw::wyh_verdict(
             i.fluents,
             i.actions,
+            i.domain,
             i.start,
             i.masks.as_ptr(),
             i.masks.len(),
@@ -94,6 +96,7 @@ pub fn finish(i: &Input, run: &[u8], more: usize, room: usize) -> (u8, usize, Ve
         raw::wyh_finish(
             i.fluents,
             i.actions,
+            i.domain,
             i.start,
             i.masks.as_ptr(),
             i.masks.len(),
@@ -135,6 +138,7 @@ pub fn next(i: &Input, run: &[u8]) -> (u8, u64) {
         raw::wyh_next(
             i.fluents,
             i.actions,
+            i.domain,
             i.start,
             i.masks.as_ptr(),
             i.masks.len(),
@@ -195,15 +199,15 @@ impl SheetLent {
     fn new() -> Self {
         let masks = (0..(wyndhopper::MASKS_ROOM + 2) as u32).map(|k| k.wrapping_mul(0x9e37_79b9)).collect();
         let log = (0..wyndhopper::LOG_ROOM + 2).map(|k| (k as u8).wrapping_mul(37) ^ 0xa5).collect();
-        SheetLent { masks, log, numbers: vec![usize::from_ne_bytes([FILLED; 8]); 12] }
+        SheetLent { masks, log, numbers: vec![usize::from_ne_bytes([FILLED; 8]); 13] }
     }
 
     /// What it holds after these masks, this log and these numbers were written.
-    pub fn with(masks: &[u32], log: &[u8], numbers: [usize; 10]) -> Self {
+    pub fn with(masks: &[u32], log: &[u8], numbers: [usize; 11]) -> Self {
         let mut lent = Self::new();
         lent.masks[1..=masks.len()].copy_from_slice(masks);
         lent.log[1..=log.len()].copy_from_slice(log);
-        lent.numbers[1..=10].copy_from_slice(&numbers);
+        lent.numbers[1..=11].copy_from_slice(&numbers);
         lent
     }
 }
@@ -224,15 +228,16 @@ pub fn read_sheet(sheet: &[u8]) -> (u8, SheetLent) {
 
 pub fn read_rule(i: &Input, kind: u8, text: &[u8]) -> (u8, usize) {
     let mut rest = usize::from_ne_bytes([FILLED; 8]);
-    let refused = unsafe { raw::wyh_read_rule(text.as_ptr(), text.len(), kind, i.fluents, i.actions, &mut rest) };
+    let refused = unsafe { raw::wyh_read_rule(text.as_ptr(), text.len(), kind, i.fluents, i.actions, i.domain, &mut rest) };
     (refused, rest)
 }
 
 pub fn normal(i: &Input, kind: u8, text: &[u8], room: usize) -> (u8, usize, Vec<u8>) {
     let mut lent = Lent::new(room);
     let mut count = usize::from_ne_bytes([FILLED; 8]);
-    let refused =
-        unsafe { raw::wyh_normal(text.as_ptr(), text.len(), kind, i.fluents, i.actions, lent.out(), lent.room, &mut count) };
+    let refused = unsafe {
+        raw::wyh_normal(text.as_ptr(), text.len(), kind, i.fluents, i.actions, i.domain, lent.out(), lent.room, &mut count)
+    };
     (refused, count, lent.bytes)
 }
 

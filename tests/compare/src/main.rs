@@ -1,12 +1,13 @@
 //! Compares every call of the proved library with the second implementation, on seeded inputs: answers, refusals, every slot, and every lent byte before and after, through the
-//! exported functions; and the safe Rust crate's answers. `compare [SEED [COUNT]]`. It ends with a line 'N inputs compared, 0 differ' or shows the first input that differs.
+//! exported functions; and the safe Rust crate's answers; and a rule with variables with the same rule written out. `compare [SEED [COUNT]]`. It ends with a line 'N inputs compared, 0 differ' or shows the first input that differs.
 mod calls;
 mod make;
 mod tallies;
+mod written;
 
 use calls::{Lent, SheetLent};
 use make::{Dice, Input};
-use oracle::rule::Kind as Plain;
+use oracle::rule::{Counts, Kind as Plain};
 use std::collections::BTreeMap;
 use wyndhopper::{Job, Kind, Refusal, Sheet, SheetRoom};
 
@@ -21,8 +22,16 @@ impl Tally {
         *self.0.entry((call, answer.as_ref().err().copied().unwrap_or(0))).or_default() += 1;
     }
 
+    /// The same, and once more of all calls together where the rule has a sign of variables.
+    fn note_rule<T>(&mut self, call: &'static str, rule: &[u8], answer: &Result<T, u8>) {
+        self.note(call, answer);
+        if rule.iter().any(|b| b"pebsg".contains(b)) {
+            self.note("rules with variables", answer);
+        }
+    }
+
     fn show(&self) {
-        for call in ["state", "reach", "verdict", "possible", "next", "tally", "append", "happened", "finish", "finish with actions", "read_rule", "normal", "read_sheet", "answer"] {
+        for call in ["state", "reach", "verdict", "possible", "next", "tally", "append", "happened", "finish", "finish with actions", "rules with variables", "written out", "read_rule", "normal", "read_sheet", "answer"] {
             let of = self.0.iter().filter(|((c, _), _)| *c == call);
             let counts: Vec<String> = of.map(|((_, n), k)| if *n == 0 { format!("answered {k}") } else { format!("refused {n}: {k}") }).collect();
             println!("{call}: {}", counts.join(", "));
@@ -38,7 +47,11 @@ fn same<T: PartialEq + std::fmt::Debug>(what: &str, input: &dyn std::fmt::Debug,
 }
 
 fn job(i: &Input) -> Job<'_> {
-    Job::new(i.fluents, i.actions, &i.masks).with_start(i.start).with_log(&i.log)
+    Job::new(i.fluents, i.actions, &i.masks).with_start(i.start).with_log(&i.log).with_domain(i.domain)
+}
+
+fn counts(i: &Input) -> Counts {
+    Counts { fluents: i.fluents, actions: i.actions, domain: i.domain }
 }
 
 /// The number of a refusal, as the second implementation has it.
@@ -72,16 +85,16 @@ fn questions(d: &mut Dice, i: &Input, tally: &mut Tally) {
     let now = place(d, &i.log);
     let then = if now < 64 { d.below(now + 1) + d.below(2) * d.below(2) } else { 0 };
     let walk = make::rule(d, 1, i);
-    let plain = oracle::ask::reach(i.fluents, i.actions, i.start, &i.masks, &i.log, &walk, then, now).map(|r| (r.set, r.count, r.earliest));
-    tally.note("reach", &plain);
+    let plain = oracle::ask::reach(counts(i), i.start, &i.masks, &i.log, &walk, then, now).map(|r| (r.set, r.count, r.earliest));
+    tally.note_rule("reach", &walk, &plain);
     let slots = plain.map_or_else(|n| (n, 0, 0, 64), |(set, count, earliest)| (0, set, count, earliest));
     same("reach", &(i, &walk, then, now), calls::reach(i, &walk, then, now), slots);
     let safe = job(i).reach(&walk, then, now).map(|r| (r.set[0], r.count as u32, r.earliest as u32));
     same("reach, safe", &(i, &walk, then, now), numbered(safe), plain);
 
     let test = make::rule(d, 0, i);
-    let plain = oracle::ask::verdict(i.fluents, i.actions, i.start, &i.masks, &i.log, &test, then, now);
-    tally.note("verdict", &plain);
+    let plain = oracle::ask::verdict(counts(i), i.start, &i.masks, &i.log, &test, then, now);
+    tally.note_rule("verdict", &test, &plain);
     same("verdict", &(i, &test, then, now), calls::verdict(i, &test, then, now), plain.map_or_else(|n| (n, 0), |yes| (0, u8::from(yes))));
     same("verdict, safe", &(i, &test, then, now), numbered(job(i).verdict(&test, then, now)), plain);
 }
@@ -96,8 +109,8 @@ fn onward(d: &mut Dice, i: &Input, tally: &mut Tally) {
     same("possible, safe", &(i, action, p), numbered(job(i).possible(action, p)), plain);
 
     let (run, i) = make::run(d, i, 4);
-    let plain = oracle::next::next(i.fluents, i.actions, i.start, &i.masks, &i.log, &run);
-    tally.note("next", &plain);
+    let plain = oracle::next::next(counts(&i), i.start, &i.masks, &i.log, &run);
+    tally.note_rule("next", &run, &plain);
     same("next", &(&i, &run), calls::next(&i, &run), plain.map_or_else(|n| (n, 0), |set| (0, set)));
     same("next, safe", &(&i, &run), numbered(job(&i).next(&run)), plain);
 }
@@ -106,22 +119,22 @@ fn texts(d: &mut Dice, i: &Input, tally: &mut Tally) {
     let k = d.below(3);
     let (kind, plain_kind) = KINDS[k];
     let text = make::rule(d, k as u8, i);
-    let plain = oracle::rule::read(&text, plain_kind, i.fluents, i.actions);
-    tally.note("read_rule", &plain);
+    let plain = oracle::rule::read(&text, plain_kind, counts(i));
+    tally.note_rule("read_rule", &text, &plain);
     same("read_rule", &(i, &text, kind), calls::read_rule(i, k as u8, &text), plain.map_or_else(|n| (n, text.len()), |rest| (0, rest)));
     let safe = job(i).read_rule(kind, &text).map(|rest| text.len() - rest.len());
     same("read_rule, safe", &(i, &text, kind), numbered(safe), plain);
 
     let room = d.pick(&[0, 1, 5, 20, 255, 256]);
-    let plain = oracle::normal::normal(&text, plain_kind, i.fluents, i.actions, room);
-    tally.note("normal", &plain);
+    let plain = oracle::normal::normal(&text, plain_kind, counts(i), room);
+    tally.note_rule("normal", &text, &plain);
     same("normal", &(i, &text, kind, room), calls::normal(i, k as u8, &text, room), written(room, &plain));
     let mut out = vec![0; room];
     let safe = job(i).normal(kind, &text, &mut out).map(|count| out[..count].to_vec());
     same("normal, safe", &(i, &text, kind, room), numbered(safe), plain);
 
     let no_kind = d.pick(&[3, 4, 255]);
-    let number = if i.fluents > 32 || !(1..=64).contains(&i.actions) { 3 } else { 6 };
+    let number = if counts(i).out_of_range() { 3 } else { 6 };
     same("read_rule, no kind", &(i, &text, no_kind), calls::read_rule(i, no_kind, &text), (number, text.len()));
     same("normal, no kind", &(i, &text, no_kind, room), calls::normal(i, no_kind, &text, room), written(room, &Err(number)));
 }
@@ -136,9 +149,9 @@ fn finishes(d: &mut Dice, i: &Input, tally: &mut Tally) {
 
 fn finish(d: &mut Dice, i: &Input, run: &[u8], more: usize, tally: &mut Tally) {
     let room = more + d.below(3) - d.below(2).min(more);
-    let plain = oracle::finish::finish(i.fluents, i.actions, i.start, &i.masks, &i.log, run, more, room);
+    let plain = oracle::finish::finish(counts(i), i.start, &i.masks, &i.log, run, more, room);
     let call = if plain.as_ref().is_ok_and(|w| !w.is_empty()) { "finish with actions" } else { "finish" };
-    tally.note(call, &plain);
+    tally.note_rule(call, run, &plain);
     same("finish", &(i, run, more, room), calls::finish(i, run, more, room), written(room, &plain));
     let mut out = vec![0; room];
     let safe = job(i).finish(run, more, &mut out).map(|count| out[..count].to_vec());
@@ -148,7 +161,7 @@ fn finish(d: &mut Dice, i: &Input, run: &[u8], more: usize, tally: &mut Tally) {
 fn sheets(d: &mut Dice, tally: &mut Tally) {
     let sheet = make::sheet(d);
     let plain = oracle::sheet::answer(&sheet).into_bytes();
-    let refused = plain.strip_prefix(b"refused=").map(|rest| rest[0] - b'0');
+    let refused = plain.strip_prefix(b"refused=").map(|rest| rest.iter().take_while(|b| b.is_ascii_digit()).fold(0, |n, b| 10 * n + (b - b'0')));
     tally.note("answer", &refused.map_or(Ok(()), Err));
     let text = String::from_utf8_lossy(&sheet).into_owned();
     same("answer", &text, calls::answer(&sheet), (plain.len(), Lent::new(wyndhopper::ANSWER_ROOM).with(&plain)));
@@ -165,18 +178,18 @@ fn read_sheets(sheet: &[u8], text: &str, tally: &mut Tally) {
     let safe = Sheet::read(sheet, &mut room);
     match plain {
         Err((number, line)) => {
-            same("read_sheet", &text, calls::read_sheet(sheet), (number, SheetLent::with(&[], &[], [line, 0, 0, 0, 0, 0, 0, 0, 0, 0])));
+            same("read_sheet", &text, calls::read_sheet(sheet), (number, SheetLent::with(&[], &[], [line, 0, 0, 0, 0, 0, 0, 0, 0, 0, 0])));
             same("read_sheet, safe", &text, safe.map(|_| ()).map_err(|f| (f.refusal.number(), f.line)), Err((number, line)));
             same("room of a refused sheet", &text, room, SheetRoom::new());
         }
         Ok(r) => {
             let masks: Vec<u32> = r.theory.masks.iter().flat_map(|m| [m.need, m.ban, m.put, m.drop]).collect();
             let (t, steps) = (&r.theory, r.log.len());
-            let numbers = [0, t.fluents, t.actions, t.start as usize, steps, r.ask.0, r.ask.1, r.run.0, r.run.1, r.more];
+            let numbers = [0, t.fluents, t.actions, r.domain, t.start as usize, steps, r.ask.0, r.ask.1, r.run.0, r.run.1, r.more];
             same("read_sheet", &text, calls::read_sheet(sheet), (0, SheetLent::with(&masks, &r.log, numbers)));
             let s = safe.expect("a sheet that is not refused");
             let ours = (s.job, s.ask, s.run, s.more);
-            let plain_job = Job::new(t.fluents, t.actions, &masks).with_start(t.start).with_log(&r.log);
+            let plain_job = Job::new(t.fluents, t.actions, &masks).with_domain(r.domain).with_start(t.start).with_log(&r.log);
             same("read_sheet, safe", &text, ours, (plain_job, &sheet[r.ask.0..r.ask.1], &sheet[r.run.0..r.run.1], r.more));
         }
     }
@@ -221,6 +234,7 @@ fn main() {
         tallies::tallies(&mut d, &i, &mut tally);
         texts(&mut d, &i, &mut tally);
         finishes(&mut d, &i, &mut tally);
+        written::written(&mut d, &i, &mut tally);
         sheets(&mut d, &mut tally);
         if k % 16 == 0 {
             laws(&mut d, &i);

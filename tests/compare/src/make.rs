@@ -29,11 +29,12 @@ impl Dice {
     }
 }
 
-/// A theory and a log as a call has them, right or wrong.
+/// A theory, a log and a domain as a call has them, right or wrong.
 #[derive(Clone, Debug)]
 pub struct Input {
     pub fluents: usize,
     pub actions: usize,
+    pub domain: usize,
     pub start: u32,
     pub masks: Vec<u32>,
     pub log: Vec<u8>,
@@ -78,15 +79,27 @@ pub fn input(d: &mut Dice) -> Input {
     }
     let steps = d.pick(&[0, 1, 2, 3, 4, 5, 8, 13, 30, 62, 63]);
     let log = (0..steps).map(|_| d.below(actions) as u8).collect();
-    let mut made = Input { fluents, actions, start, masks, log };
+    let domain = domain(d, fluents, actions);
+    let mut made = Input { fluents, actions, domain, start, masks, log };
     if d.once_in(8) {
         damage(d, &mut made);
     }
     made
 }
 
+/// No variables, few values, as many as there are fluents or actions, or any number of them.
+fn domain(d: &mut Dice, fluents: usize, actions: usize) -> usize {
+    match d.below(8) {
+        0 | 1 => 0,
+        2 | 3 => d.pick(&[1, 2, 3]),
+        4 => fluents.clamp(1, 16),
+        5 => actions.min(16),
+        _ => 1 + d.below(16),
+    }
+}
+
 fn damage(d: &mut Dice, i: &mut Input) {
-    match d.below(9) {
+    match d.below(10) {
         0 => i.fluents = d.pick(&[33, 64, 65, usize::MAX]),
         1 => i.actions = d.pick(&[0, 65, 100, usize::MAX]),
         2 => i.masks.push(0),
@@ -100,6 +113,7 @@ fn damage(d: &mut Dice, i: &mut Input) {
         }
         6 => i.log = vec![0; 63 + d.below(3)],
         7 => i.log.push(d.next() as u8),
+        8 => i.domain = d.pick(&[17, 18, 64, 255, 256, usize::MAX]),
         _ => i.masks.clear(),
     }
 }
@@ -109,41 +123,120 @@ fn number(d: &mut Dice, limit: usize) -> String {
     format!("{n:02}")
 }
 
-pub fn walk(d: &mut Dice, depth: usize, fluents: usize, actions: usize, job: bool) -> String {
+/// What a made rule may name: so many fluents and actions, and sums with the letters that are bound where it stands. The second implementation goes over each value of each binder, so the
+/// values of all the binders around a place come to so many at most.
+#[derive(Clone)]
+pub struct Names {
+    fluents: usize,
+    actions: usize,
+    domain: usize,
+    bound: Vec<u8>,
+    values: usize,
+}
+
+impl Names {
+    pub fn of(i: &Input) -> Self {
+        Names { domain: i.domain.min(100), values: if i.log.len() > 13 { 16 } else { 64 }, ..Names::plain(i.fluents.min(100), i.actions.clamp(1, 100)) }
+    }
+
+    /// No variables.
+    pub fn plain(fluents: usize, actions: usize) -> Self {
+        Names { fluents, actions, domain: 0, bound: vec![], values: 0 }
+    }
+
+    /// So many values for each, and for all binders around a place together.
+    pub fn with(self, domain: usize, values: usize) -> Self {
+        Names { domain, values, ..self }
+    }
+
+    /// Whether a sign of variables comes: where there are none, it would be refused.
+    fn varies(&self, d: &mut Dice) -> bool {
+        d.once_in(if self.domain == 0 { 400 } else { 2 + usize::from(self.bound.is_empty()) })
+    }
+
+    /// A binder and what stands in its part: `v` and `w` mostly, so that one hides another at times.
+    fn binder(&self, d: &mut Dice, sign: char) -> Option<(String, Names)> {
+        let v = if d.once_in(4) { d.pick(b"vwxy") } else { d.pick(b"vw") };
+        let values = self.values / self.domain.max(1);
+        let bound = [&self.bound[..], &[v]].concat();
+        (values > 0).then(|| (format!("{sign}{}", v as char), Names { bound, values, ..self.clone() }))
+    }
+
+    /// A sum: a letter that is bound there, or, rarely, any.
+    fn sum(&self, d: &mut Dice, sign: char, count: usize) -> Option<String> {
+        let v = match &self.bound[..] {
+            _ if d.once_in(60) => d.pick(b"vwxyz"),
+            [] => return None,
+            bound => d.pick(bound),
+        };
+        // a number that is right with every value, where there is one
+        let limit = (count + 1).saturating_sub(self.domain);
+        (limit > 0 || d.once_in(40)).then(|| format!("{sign}{}{}", number(d, limit), v as char))
+    }
+}
+
+pub fn walk(d: &mut Dice, depth: usize, names: &Names, job: bool) -> String {
+    if names.varies(d) {
+        if let Some(made) = varied_walk(d, depth, names, job) {
+            return made;
+        }
+    }
     let sign = if depth <= 1 { d.below(4) } else { d.below(9) };
-    let part = |d: &mut Dice| walk(d, depth - 1, fluents, actions, job);
+    let part = |d: &mut Dice| walk(d, depth - 1, names, job);
     match sign {
-        1 if !job || d.once_in(50) => format!("r{}", number(d, actions)),
+        1 if !job || d.once_in(50) => format!("r{}", number(d, names.actions)),
         2 => "n".to_string(),
         3 if !job || d.once_in(50) => "u".to_string(),
         4 => format!(";{}{}", part(d), part(d)),
         5 => format!("|{}{}", part(d), part(d)),
         6 => format!("*{}", part(d)),
-        7 => format!("?{}", test(d, depth - 1, fluents, actions)),
+        7 => format!("?{}", test(d, depth - 1, names)),
         8 if !job || d.once_in(50) => format!("-{}", part(d)),
-        _ => format!("a{}", number(d, actions)),
+        _ => format!("a{}", number(d, names.actions)),
     }
 }
 
-pub fn test(d: &mut Dice, depth: usize, fluents: usize, actions: usize) -> String {
+fn varied_walk(d: &mut Dice, depth: usize, names: &Names, job: bool) -> Option<String> {
+    if depth > 1 && (names.bound.is_empty() || d.once_in(2)) {
+        let (binder, within) = names.binder(d, 'p')?;
+        return Some(binder + &walk(d, depth - 1, &within, job));
+    }
+    let sign = if d.once_in(if job { 50 } else { 3 }) { 's' } else { 'b' };
+    names.sum(d, sign, names.actions)
+}
+
+pub fn test(d: &mut Dice, depth: usize, names: &Names) -> String {
+    if names.varies(d) {
+        if let Some(made) = varied_test(d, depth, names) {
+            return made;
+        }
+    }
     let sign = if depth <= 1 { d.below(2) } else { d.below(6) };
-    let part = |d: &mut Dice| test(d, depth - 1, fluents, actions);
+    let part = |d: &mut Dice| test(d, depth - 1, names);
     match sign {
         0 => "1".to_string(),
-        1 if fluents > 0 || d.once_in(20) => format!("f{}", number(d, fluents)),
+        1 if names.fluents > 0 || d.once_in(20) => format!("f{}", number(d, names.fluents)),
         1 => "1".to_string(),
         2 => format!("!{}", part(d)),
         3 => format!("&{}{}", part(d), part(d)),
-        _ => format!("<{}{}", walk(d, depth - 1, fluents, actions, false), part(d)),
+        _ => format!("<{}{}", walk(d, depth - 1, names, false), part(d)),
     }
+}
+
+fn varied_test(d: &mut Dice, depth: usize, names: &Names) -> Option<String> {
+    if depth > 1 && (names.bound.is_empty() || d.once_in(2)) {
+        let (binder, within) = names.binder(d, 'e')?;
+        return Some(binder + &test(d, depth - 1, &within));
+    }
+    names.sum(d, 'g', names.fluents)
 }
 
 /// A rule's text, mostly right; `kind` 0 test, 1 walk, 2 run.
 pub fn rule(d: &mut Dice, kind: u8, i: &Input) -> Vec<u8> {
-    let (fluents, actions) = (i.fluents.min(100), i.actions.clamp(1, 100));
+    let names = Names::of(i);
     let depth = 1 + d.below(6);
     let text = loop {
-        let t = if kind == 0 { test(d, depth, fluents, actions) } else { walk(d, depth, fluents, actions, kind == 2) };
+        let t = if kind == 0 { test(d, depth, &names) } else { walk(d, depth, &names, kind == 2) };
         if t.len() <= 300 {
             break t;
         }
@@ -164,12 +257,13 @@ fn damaged(d: &mut Dice, text: String) -> Vec<u8> {
 pub fn run(d: &mut Dice, i: &Input, more: usize) -> (Vec<u8>, Input) {
     let mut i = i.clone();
     let actions = i.actions.clamp(1, 100);
-    let shape = d.below(8);
-    if shape < 4 {
+    let shape = d.below(10);
+    if !(4..=7).contains(&shape) {
         i.log.truncate(5);
     }
+    let names = Names::of(&i);
     let text = match shape {
-        0 => format!(";*n{}", walk(d, 3, i.fluents.min(100), actions, true)),
+        0 => format!(";*n{}", walk(d, 3, &names, true)),
         1 => "*n".to_string(),
         2 => format!(";*n{}", steps(d, actions, 2)),
         3 => format!(";*n?{}", d.pick(&["!1", "!<u1", "f00", "<-a001", "!<-;a00*n1"])),
@@ -177,7 +271,9 @@ pub fn run(d: &mut Dice, i: &Input, more: usize) -> (Vec<u8>, Input) {
             let log: String = i.log.iter().map(|&a| format!(";a{:02}", a.min(99))).collect();
             format!("{log}{}", steps(d, actions, more.min(4)))
         }
-        6 => format!(";{}?!1", walk(d, 4, i.fluents.min(100), actions, true)),
+        6 => format!(";{}?!1", walk(d, 4, &names, true)),
+        8 if (1..=3).contains(&i.domain) => d.pick(&["pv;*n;b00vpw;b00w*b00v", "pvpw;*n;b00v|b00w?g00v"]).to_string(),
+        8 if i.domain > 3 => d.pick(&["*pvb00v", ";*npv;b00v?!g00v", ";*n?!ev!g00v", "pv*b00v", ";*npv|b00v?evg00v"]).to_string(),
         _ => return (rule(d, 2, &i), i),
     };
     (damaged(d, text), i)
@@ -204,22 +300,24 @@ fn alike(d: &mut Dice) -> Input {
         }
     }
     let log = (0..d.below(4)).map(|_| d.below(actions) as u8).collect();
-    Input { fluents, actions, start: mask(d, fluents), masks, log }
+    let domain = if d.once_in(2) { 0 } else { 1 + d.below(fluents.min(actions)) };
+    Input { fluents, actions, domain, start: mask(d, fluents), masks, log }
 }
 
 /// A job that is looked for long: it begins with `*n` or waits for any action further on, takes up to all six steps, has actions that stand in for one another, or cannot be finished.
 pub fn searched(d: &mut Dice) -> (Vec<u8>, Input, usize) {
     let i = alike(d);
+    let names = Names::of(&i).with(i.domain, 4);
     let most = if i.actions < 4 { 6 } else { 4 };
     let any = |k: usize| ";n".repeat(k);
-    let there = test(d, 3, i.fluents, i.actions);
+    let there = test(d, 3, &names);
     let text = match d.below(6) {
         0 => format!(";*n{}", steps(d, i.actions, most)),
         1 => format!(";*n{}?{there}", any(d.below(most + 1))),
         2 => format!(";*n;?{there}{}?1", any(d.below(3))),
-        3 => format!(";*n*|{}?{there}", walk(d, 2, i.fluents, i.actions, true)),
+        3 => format!(";*n*|{}?{there}", walk(d, 2, &names, true)),
         4 => format!("{}{}", any(i.log.len()), steps(d, i.actions, most)),
-        _ => format!(";*n;*;{}n?{there}", walk(d, 2, i.fluents, i.actions, true)),
+        _ => format!(";*n;*;{}n?{there}", walk(d, 2, &names, true)),
     };
     (text.into_bytes(), i, most)
 }
@@ -230,7 +328,7 @@ fn damage_text(d: &mut Dice, text: &mut Vec<u8>) {
         1 => {
             text.pop();
         }
-        2 => text.push(d.pick(b"1n;a0")),
+        2 => text.push(d.pick(b"1n;a0vp")),
         3 if !text.is_empty() => {
             let k = d.below(text.len());
             text[k] = d.next() as u8;
@@ -243,22 +341,44 @@ fn damage_text(d: &mut Dice, text: &mut Vec<u8>) {
             *text = deep;
         }
         5 => *text = vec![b'!'; d.pick(&[22, 23, 24, 253, 254, 255, 256])].into_iter().chain(*b"1").collect(),
-        _ => text.insert(0, d.pick(b";|&<")),
+        _ => text.insert(0, d.pick(b";|&<pe")),
     }
+}
+
+/// A test, a walk or a run with a binder, that may well fit in a text when it is written out, and the domain.
+pub fn bound(d: &mut Dice, kind: u8, i: &Input) -> (Vec<u8>, Input) {
+    let most = i.fluents.max(i.actions).max(1);
+    let i = Input { domain: d.pick(&[1, 2, 2, 3, 3, 4, 5, 8, 16]).min(most), ..i.clone() };
+    let depth = 1 + d.below(if i.domain > 4 { 3 } else { 5 });
+    let (binder, within) = Names::of(&i).binder(d, if kind == 0 { 'e' } else { 'p' }).expect("one binder is always allowed");
+    let part = |d: &mut Dice| if kind == 0 { test(d, depth, &within) } else { walk(d, depth, &within, kind == 2) };
+    let (before, joined) = if kind == 0 {
+        (d.pick(&["", "", "!", "<*u", "<-;a00*n"]), d.pick(&["&", "&!", ""]))
+    } else {
+        (d.pick(&["", "", "*", ";*n", "|a00"]), d.pick(&[";", "|", ""]))
+    };
+    let second = if joined.is_empty() { String::new() } else { part(d) };
+    (format!("{before}{binder}{joined}{}{second}", part(d)).into_bytes(), i)
 }
 
 /// A sheet, mostly right.
 pub fn sheet(d: &mut Dice) -> Vec<u8> {
     let i = loop {
         let i = input(d);
-        if i.fluents < 100 && i.actions < 100 && i.masks.len() % 4 == 0 {
+        if i.fluents < 100 && i.actions < 100 && i.domain < 100 && i.masks.len() % 4 == 0 {
             break i;
         }
     };
     let more = if i.actions > 4 { d.below(3) } else { d.below(5) };
     let (run, i) = run(d, &i, more);
     let hex = |m: &u32| format!("{m:08x}");
-    let mut s = format!("sheet=1\nfluents={:02}\nactions={:02}\nstart={}\n", i.fluents, i.actions, hex(&i.start));
+    // Version 1 has no domain; now and then one with it, or version 2 without.
+    let version = if d.once_in(30) { d.pick(&[0, 1, 2, 3]) } else { 1 + i.domain.min(1) };
+    let mut s = format!("sheet={version}\nfluents={:02}\nactions={:02}\n", i.fluents, i.actions);
+    if (version == 2) != d.once_in(30) {
+        s += &format!("domain={:02}\n", i.domain);
+    }
+    s += &format!("start={}\n", hex(&i.start));
     for m in i.masks.chunks(4) {
         s += &format!("act={}\n", m.iter().map(hex).collect::<Vec<_>>().join(","));
     }
@@ -285,6 +405,6 @@ fn damage_sheet(d: &mut Dice, s: &mut Vec<u8>) {
         2 => s.insert(k, d.pick(b"\n0f=,")),
         3 => s.truncate(k),
         4 => s.extend_from_slice(b"more=1\n"),
-        _ => s.resize(d.pick(&[3262, 3263, 3264, 5000]), b'0'),
+        _ => s.resize(d.pick(&[3262, 3263, 3264, 3272, 3273, 3274, 5000]), b'0'),
     }
 }

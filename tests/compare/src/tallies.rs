@@ -63,7 +63,9 @@ fn made(d: &mut Dice, i: &Input, t: Tally, noted: &mut Noted) {
     let a = action(d, i);
     let test = format!("<-;a{a:02}*n1");
     if a < 100 {
-        same("quick yes and verdict", &(i, a), t.happened(&job(i), a), job(i).verdict(test.as_bytes(), i.log.len(), i.log.len()));
+        // The test has no variables, so any domain does; the quick yes looks at none.
+        let verdict = job(i).with_domain(i.domain.min(16)).verdict(test.as_bytes(), i.log.len(), i.log.len());
+        same("quick yes and verdict", &(i, a), t.happened(&job(i), a), verdict);
     }
     asked(d, i, &t, noted);
     if a > 255 {

@@ -1,20 +1,41 @@
-//! Document 01, the two tables and "What may be asked": a walk is a table of pairs of positions at most now.
-use crate::rule::{exactly, Kind, Rule, Test, Walk};
-use crate::theory::{check, possible, states, Theory};
+//! Document 01, the two tables and "What may be asked": a walk is a table of pairs of positions at most now. Document 02, Q-2: with variables, one such table for each of their values.
+use crate::rule::{exactly, Counts, Kind, Name, Rule, Test, Walk, LETTERS};
+use crate::theory::{check, check_with, possible, states, Theory};
 use crate::Refusal;
 
 pub type Pairs = Vec<Vec<bool>>;
 
+/// The values that the variables have, in the order of their letters; none of one that no binder has given a value yet.
+pub type Values = [Option<usize>; 4];
+
+pub const NO_VALUES: Values = [None; 4];
+
+/// These values, but v has this one: "An inner binding hides an outer one of the same name."
+pub fn bind(mut values: Values, v: u8, value: usize) -> Values {
+    values[place(v)] = Some(value);
+    values
+}
+
+fn place(v: u8) -> usize {
+    LETTERS.iter().position(|&l| l == v).expect("a variable")
+}
+
+/// The action or fluent that is named: "NN plus the value".
+pub fn number(name: &Name, values: Values) -> usize {
+    name.number + name.plus.map_or(0, |v| values[place(v)].expect("a bound variable"))
+}
+
 /// What a question is asked of.
 pub struct World<'a> {
     pub theory: &'a Theory,
+    pub domain: usize,
     pub log: &'a [u8],
     pub states: Vec<u32>,
 }
 
 impl<'a> World<'a> {
-    pub fn new(theory: &'a Theory, log: &'a [u8]) -> Self {
-        World { theory, log, states: states(theory, log) }
+    pub fn new(theory: &'a Theory, domain: usize, log: &'a [u8]) -> Self {
+        World { theory, domain, log, states: states(theory, log) }
     }
 
     fn pairs(n: usize, holds: impl Fn(usize, usize) -> bool) -> Pairs {
@@ -31,36 +52,46 @@ impl<'a> World<'a> {
     }
 
     /// The pairs that a walk leads over, with now = n.
-    pub fn walk(&self, w: &Walk, n: usize) -> Pairs {
+    pub fn walk(&self, w: &Walk, n: usize, values: Values) -> Pairs {
+        let of = |w: &Walk| self.walk(w, n, values);
         match w {
-            Walk::Act(a) => Self::pairs(n, |p, q| q == p + 1 && self.stepped(*a, p)),
-            Walk::Undo(a) => Self::pairs(n, |p, q| p == q + 1 && self.stepped(*a, q)),
+            Walk::Act(a) => Self::pairs(n, |p, q| q == p + 1 && self.stepped(number(a, values), p)),
+            Walk::Undo(a) => Self::pairs(n, |p, q| p == q + 1 && self.stepped(number(a, values), q)),
             Walk::Next => Self::pairs(n, |p, q| q == p + 1 && self.any_stepped(p)),
             Walk::Prev => Self::pairs(n, |p, q| p == q + 1 && self.any_stepped(q)),
             Walk::Seq(v, w) => {
-                let (v, w) = (self.walk(v, n), self.walk(w, n));
+                let (v, w) = (of(v), of(w));
                 Self::pairs(n, |p, q| (0..=n).any(|m| v[p][m] && w[m][q]))
             }
             Walk::Alt(v, w) => {
-                let (v, w) = (self.walk(v, n), self.walk(w, n));
+                let (v, w) = (of(v), of(w));
                 Self::pairs(n, |p, q| v[p][q] || w[p][q])
             }
-            Walk::Star(w) => chains(&self.walk(w, n), n),
-            Walk::Check(t) => Self::pairs(n, |p, q| p == q && self.test(t, p)[p]),
-            Walk::Conv(w) => self.walk(&inward(w), n),
+            Walk::Star(w) => chains(&of(w), n),
+            Walk::Check(t) => Self::pairs(n, |p, q| p == q && self.test(t, p, values)[p]),
+            Walk::Conv(w) => of(&inward(w)),
+            Walk::Pick(v, w) => {
+                let with: Vec<Pairs> = (0..self.domain).map(|k| self.walk(w, n, bind(values, *v, k))).collect();
+                Self::pairs(n, |p, q| with.iter().any(|w| w[p][q]))
+            }
         }
     }
 
     /// At which positions a test is true, with now = n.
-    pub fn test(&self, t: &Test, n: usize) -> Vec<bool> {
+    pub fn test(&self, t: &Test, n: usize, values: Values) -> Vec<bool> {
+        let of = |t: &Test| self.test(t, n, values);
         match t {
             Test::Always => vec![true; n + 1],
-            Test::Fluent(i) => (0..=n).map(|p| self.states[p] >> i & 1 == 1).collect(),
-            Test::Not(t) => self.test(t, n).into_iter().map(|b| !b).collect(),
-            Test::Both(t, u) => self.test(t, n).into_iter().zip(self.test(u, n)).map(|(a, b)| a && b).collect(),
+            Test::Fluent(i) => (0..=n).map(|p| self.states[p] >> number(i, values) & 1 == 1).collect(),
+            Test::Not(t) => of(t).into_iter().map(|b| !b).collect(),
+            Test::Both(t, u) => of(t).into_iter().zip(of(u)).map(|(a, b)| a && b).collect(),
             Test::Some(w, t) => {
-                let (w, t) = (self.walk(w, n), self.test(t, n));
+                let (w, t) = (self.walk(w, n, values), of(t));
                 (0..=n).map(|p| (0..=n).any(|q| w[p][q] && t[q])).collect()
+            }
+            Test::Exists(v, t) => {
+                let with: Vec<Vec<bool>> = (0..self.domain).map(|k| self.test(t, n, bind(values, *v, k))).collect();
+                (0..=n).map(|p| with.iter().any(|t| t[p])).collect()
             }
         }
     }
@@ -91,6 +122,7 @@ fn inward(w: &Walk) -> Walk {
         Walk::Star(w) => Walk::Star(conv(w)),
         Walk::Check(t) => Walk::Check(t.clone()),
         Walk::Conv(w) => (**w).clone(),
+        Walk::Pick(v, w) => Walk::Pick(*v, conv(w)),
     }
 }
 
@@ -117,22 +149,20 @@ pub fn state(fluents: usize, actions: usize, start: u32, table: &[u32], log: &[u
     Ok(states(&theory, log)[position])
 }
 
-#[allow(clippy::too_many_arguments)]
-pub fn reach(fluents: usize, actions: usize, start: u32, table: &[u32], log: &[u8], text: &[u8], then: usize, now: usize) -> Result<Reached, Refusal> {
-    let theory = check(fluents, actions, start, table, log)?;
-    let Rule::Walk(walk) = exactly(text, Kind::Walk, fluents, actions)? else { unreachable!() };
+pub fn reach(c: Counts, start: u32, table: &[u32], log: &[u8], text: &[u8], then: usize, now: usize) -> Result<Reached, Refusal> {
+    let theory = check_with(c, start, table, log)?;
+    let Rule::Walk(walk) = exactly(text, Kind::Walk, c)? else { unreachable!() };
     times(then, now, log)?;
-    let row = World::new(&theory, log).walk(&walk, now).swap_remove(then);
+    let row = World::new(&theory, c.domain, log).walk(&walk, now, NO_VALUES).swap_remove(then);
     let set = row.iter().enumerate().fold(0u64, |s, (q, &b)| if b { s | 1 << q } else { s });
     let count = row.iter().filter(|&&b| b).count() as u32;
     let earliest = row.iter().position(|&b| b).unwrap_or(64) as u32;
     Ok(Reached { set, count, earliest })
 }
 
-#[allow(clippy::too_many_arguments)]
-pub fn verdict(fluents: usize, actions: usize, start: u32, table: &[u32], log: &[u8], text: &[u8], then: usize, now: usize) -> Result<bool, Refusal> {
-    let theory = check(fluents, actions, start, table, log)?;
-    let Rule::Test(test) = exactly(text, Kind::Test, fluents, actions)? else { unreachable!() };
+pub fn verdict(c: Counts, start: u32, table: &[u32], log: &[u8], text: &[u8], then: usize, now: usize) -> Result<bool, Refusal> {
+    let theory = check_with(c, start, table, log)?;
+    let Rule::Test(test) = exactly(text, Kind::Test, c)? else { unreachable!() };
     times(then, now, log)?;
-    Ok(World::new(&theory, log).test(&test, now)[then])
+    Ok(World::new(&theory, c.domain, log).test(&test, now, NO_VALUES)[then])
 }

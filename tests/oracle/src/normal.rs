@@ -1,5 +1,5 @@
-//! Document 01, "Normal form of a rule".
-use crate::rule::{exactly, Kind, Rule, Test, Walk};
+//! Document 01, "Normal form of a rule"; document 02, Q-2: "Normal form turns `b` and `s` into each other and passes through `p`."
+use crate::rule::{exactly, Counts, Kind, Rule, Test, Walk};
 use crate::Refusal;
 
 pub fn walk(w: &Walk) -> Walk {
@@ -10,6 +10,7 @@ pub fn walk(w: &Walk) -> Walk {
         Walk::Star(w) => Walk::Star(Box::new(walk(w))),
         Walk::Check(t) => Walk::Check(Box::new(test(t))),
         Walk::Conv(w) => converse(w),
+        Walk::Pick(v, w) => Walk::Pick(*v, Box::new(walk(w))),
     }
 }
 
@@ -24,6 +25,7 @@ fn converse(w: &Walk) -> Walk {
         Walk::Star(w) => Walk::Star(Box::new(converse(w))),
         Walk::Check(t) => Walk::Check(Box::new(test(t))),
         Walk::Conv(w) => walk(w),
+        Walk::Pick(v, w) => Walk::Pick(*v, Box::new(converse(w))),
     }
 }
 
@@ -33,15 +35,16 @@ pub fn test(t: &Test) -> Test {
         Test::Not(t) => Test::Not(Box::new(test(t))),
         Test::Both(t, u) => Test::Both(Box::new(test(t)), Box::new(test(u))),
         Test::Some(w, t) => Test::Some(Box::new(walk(w)), Box::new(test(t))),
+        Test::Exists(v, t) => Test::Exists(*v, Box::new(test(t))),
     }
 }
 
 /// The bytes of the normal form, for an output of `room` bytes.
-pub fn normal(text: &[u8], kind: Kind, fluents: usize, actions: usize, room: usize) -> Result<Vec<u8>, Refusal> {
-    if fluents > 32 || actions < 1 || actions > 64 {
+pub fn normal(text: &[u8], kind: Kind, c: Counts, room: usize) -> Result<Vec<u8>, Refusal> {
+    if c.out_of_range() {
         return Err(3);
     }
-    let bytes = match exactly(text, kind, fluents, actions)? {
+    let bytes = match exactly(text, kind, c)? {
         Rule::Walk(w) => walk(&w).text(),
         Rule::Test(t) => test(&t).text(),
     };

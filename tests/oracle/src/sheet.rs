@@ -1,7 +1,7 @@
-//! Document 01, "The sheet" and "The answering program".
-use crate::ask::World;
+//! Document 01, "The sheet" and "The answering program"; document 02, Q-2: "Sheet=2 has a line `domain=NN` (01 to 16) after `actions`."
+use crate::ask::{World, NO_VALUES};
 use crate::finish::first;
-use crate::rule::{exactly, Kind, Rule, Test, Walk};
+use crate::rule::{exactly, Counts, Kind, Rule, Test, Walk};
 use crate::theory::{Masks, Theory};
 
 /// A refusal with its place.
@@ -55,14 +55,29 @@ fn steps(value: &[u8], actions: usize) -> Option<Vec<u8>> {
     value.chunks(2).map(|c| two(c).filter(|&a| a < actions).map(|a| a as u8)).collect()
 }
 
-fn rule(value: &[u8], kind: Kind, theory: &Theory, lines: &Lines) -> Result<Rule, Fault> {
-    exactly(value, kind, theory.fluents, theory.actions).or_else(|n| lines.fault(n))
+fn rule(value: &[u8], kind: Kind, theory: &Theory, domain: usize, lines: &Lines) -> Result<Rule, Fault> {
+    let counts = Counts { fluents: theory.fluents, actions: theory.actions, domain };
+    exactly(value, kind, counts).or_else(|n| lines.fault(n))
 }
 
-fn theory(lines: &mut Lines) -> Result<Theory, Fault> {
-    if lines.next("sheet=")? != b"1" {
-        return lines.fault(3);
+/// The domain's line, which version 1 has not: it has no variables.
+fn domain(lines: &mut Lines, version: u8) -> Result<usize, Fault> {
+    if version == 1 {
+        return Ok(0);
     }
+    match two(lines.next("domain=")?) {
+        Some(n) if (1..=16).contains(&n) => Ok(n),
+        _ => lines.fault(3),
+    }
+}
+
+/// The theory and the domain.
+fn theory(lines: &mut Lines) -> Result<(Theory, usize), Fault> {
+    let version = match lines.next("sheet=")? {
+        b"1" => 1,
+        b"2" => 2,
+        _ => return lines.fault(3),
+    };
     let fluents = match two(lines.next("fluents=")?) {
         Some(n) if n <= 32 => n,
         _ => return lines.fault(3),
@@ -71,6 +86,7 @@ fn theory(lines: &mut Lines) -> Result<Theory, Fault> {
         Some(n) if (1..=64).contains(&n) => n,
         _ => return lines.fault(3),
     };
+    let domain = domain(lines, version)?;
     let Some(start) = hex(lines.next("start=")?) else { return lines.fault(3) };
     if lacking(fluents, start) {
         return lines.fault(4);
@@ -88,12 +104,13 @@ fn theory(lines: &mut Lines) -> Result<Theory, Fault> {
         }
         masks.push(Masks { need: m[0], ban: m[1], put: m[2], drop: m[3] });
     }
-    Ok(Theory { fluents, actions, start, masks })
+    Ok((Theory { fluents, actions, start, masks }, domain))
 }
 
 /// What a sheet says; where its rules stand, as places of the sheet.
 pub struct Read {
     pub theory: Theory,
+    pub domain: usize,
     pub log: Vec<u8>,
     pub ask: (usize, usize),
     pub run: (usize, usize),
@@ -108,18 +125,18 @@ fn stretch(sheet: &[u8], value: &[u8]) -> (usize, usize) {
     (begin, begin + value.len())
 }
 
-/// Reads a sheet: what it says, or the refusal's number with its line.
+/// Reads a sheet: what it says, or the refusal's number with its line. "Sheet limit 3,273", whatever its version.
 pub fn read(sheet: &[u8]) -> Result<Read, Fault> {
-    if sheet.len() > 3263 {
+    if sheet.len() > 3273 {
         return Err((1, 0));
     }
     let mut lines = Lines { rest: sheet, line: 0 };
-    let theory = theory(&mut lines)?;
+    let (theory, domain) = theory(&mut lines)?;
     let Some(log) = steps(lines.next("log=")?, theory.actions) else { return lines.fault(5) };
     let ask = lines.next("ask=")?;
-    let test = rule(ask, Kind::Test, &theory, &lines)?;
+    let test = rule(ask, Kind::Test, &theory, domain, &lines)?;
     let run = lines.next("run=")?;
-    let job = rule(run, Kind::Job, &theory, &lines)?;
+    let job = rule(run, Kind::Job, &theory, domain, &lines)?;
     let more = match lines.next("more=")? {
         [d @ b'0'..=b'6'] => (d - b'0') as usize,
         _ => return lines.fault(3),
@@ -128,15 +145,15 @@ pub fn read(sheet: &[u8]) -> Result<Read, Fault> {
         return Err((2, lines.line + 1));
     }
     let (Rule::Test(test), Rule::Walk(job)) = (test, job) else { unreachable!() };
-    Ok(Read { theory, log, ask: stretch(sheet, ask), run: stretch(sheet, run), more, test, job })
+    Ok(Read { theory, domain, log, ask: stretch(sheet, ask), run: stretch(sheet, run), more, test, job })
 }
 
 fn answered(sheet: &[u8]) -> Result<String, Fault> {
-    let Read { theory, log, more, test, job, .. } = read(sheet)?;
-    let world = World::new(&theory, &log);
-    let verdict = if world.test(&test, log.len())[log.len()] { "yes" } else { "no" };
+    let Read { theory, domain, log, more, test, job, .. } = read(sheet)?;
+    let world = World::new(&theory, domain, &log);
+    let verdict = if world.test(&test, log.len(), NO_VALUES)[log.len()] { "yes" } else { "no" };
     let state = world.states[log.len()];
-    let finish = match first(&theory, &log, &job, more) {
+    let finish = match first(&theory, domain, &log, &job, more) {
         Some(w) => w.iter().map(|a| format!("{a:02}")).collect(),
         None => "none".to_string(),
     };
@@ -162,9 +179,11 @@ mod tests {
     #[test]
     fn its_examples() {
         use crate::ask::{reach, verdict};
+        use crate::rule::Counts;
+        let c = Counts { fluents: 2, actions: 3, domain: 0 };
         let t = [0, 0, 1, 0, 1, 0, 2, 0, 0, 0, 0, 3];
         let (l, m): (&[u8], &[u8]) = (&[0, 1, 2, 0], &[1, 0]);
-        let set = |log, text: &str, then, now| reach(2, 3, 0, &t, log, text.as_bytes(), then, now).unwrap().set;
+        let set = |log, text: &str, then, now| reach(c, 0, &t, log, text.as_bytes(), then, now).unwrap().set;
         assert_eq!(set(l, "a00", 0, 4), 2);
         assert_eq!(set(l, "a00", 1, 4), 0);
         assert_eq!(set(l, "r00", 4, 4), 8);
@@ -175,7 +194,7 @@ mod tests {
         assert_eq!(set(m, "a01", 0, 2), 0);
         assert_eq!(set(m, "n", 0, 2), 0);
         assert_eq!(set(m, "a00", 1, 2), 4);
-        let ask = |then, now| verdict(2, 3, 0, &t, l, b"<-;a00*n!<;*na011", then, now).unwrap();
+        let ask = |then, now| verdict(c, 0, &t, l, b"<-;a00*n!<;*na011", then, now).unwrap();
         assert_eq!([ask(4, 4), ask(2, 2), ask(1, 1), ask(1, 4)], [true, false, true, false]);
     }
 }

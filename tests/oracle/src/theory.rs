@@ -1,4 +1,5 @@
 //! Document 01, "Facts, actions, log".
+use crate::rule::Counts;
 use crate::Refusal;
 
 #[derive(Clone, Copy, Debug)]
@@ -63,4 +64,12 @@ pub fn check(fluents: usize, actions: usize, start: u32, table: &[u32], log: &[u
     }
     let masks = table.chunks(4).map(|c| Masks { need: c[0], ban: c[1], put: c[2], drop: c[3] }).collect();
     Ok(Theory { fluents, actions, start, masks })
+}
+
+/// The same of a call that takes a rule, and so has a domain: "3 for a bad domain".
+pub fn check_with(c: Counts, start: u32, table: &[u32], log: &[u8]) -> Result<Theory, Refusal> {
+    if c.out_of_range() {
+        return Err(3);
+    }
+    check(c.fluents, c.actions, start, table, log)
 }

@@ -2,13 +2,15 @@
 //! 00 01 02 00 (every step was), E is empty; now is the end unless given.
 use oracle::ask;
 use oracle::finish::finish;
+use oracle::rule::Counts;
 
+const COUNTS: Counts = Counts { fluents: 2, actions: 3, domain: 0 };
 const MASKS: [u32; 12] = [0, 0, 1, 0, 1, 0, 2, 0, 0, 0, 0, 3];
 const M: &[u8] = &[1, 0];
 const L: &[u8] = &[0, 1, 2, 0];
 
 fn reach(log: &[u8], walk: &str, then: usize) -> (u64, u32, u32) {
-    let r = ask::reach(2, 3, 0, &MASKS, log, walk.as_bytes(), then, log.len()).unwrap();
+    let r = ask::reach(COUNTS, 0, &MASKS, log, walk.as_bytes(), then, log.len()).unwrap();
     (r.set, r.count, r.earliest)
 }
 
@@ -17,11 +19,11 @@ fn set(log: &[u8], walk: &str, then: usize) -> u64 {
 }
 
 fn verdict(log: &[u8], test: &str, then: usize) -> bool {
-    ask::verdict(2, 3, 0, &MASKS, log, test.as_bytes(), then, log.len()).unwrap()
+    ask::verdict(COUNTS, 0, &MASKS, log, test.as_bytes(), then, log.len()).unwrap()
 }
 
 fn finished(log: &[u8], job: &str, more: usize) -> Result<Vec<u8>, u8> {
-    finish(2, 3, 0, &MASKS, log, job.as_bytes(), more, 6)
+    finish(COUNTS, 0, &MASKS, log, job.as_bytes(), more, 6)
 }
 
 #[test]

@@ -17,7 +17,7 @@ at-requires c κs = search needs
 
 test-requires : tie.Need-test-requires
 test-requires c κs =
-    let laid = c .before .before .before in
+    let laid = c .before .before .before .before in
     test-first (asked (laid .before) .pre) (laid .lay-out .ensures)
 
 has-requires : tie.Need-has-requires
@@ -27,7 +27,7 @@ returns : tie.Need-returns
 returns c =
     let kept = c .before in
     let one = kept .before .before .before in
-    let laid = c .before .before .before .before .before in
+    let laid = one .before .before in
     verdict-right (asked (laid .before) .pre) (laid .lay-out .ensures) (one .at .result) (kept .test .result) (one .at .ensures) (kept .test .ensures) (c .has .result) (c .has .ensures)
 
 pub judged-spec : {M : Type 1} → statement M

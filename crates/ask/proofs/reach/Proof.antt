@@ -47,7 +47,7 @@ at-requires c κs = search needs
 
 walk-requires : tie.Need-walk-requires
 walk-requires c κs =
-    let laid = c .before .before .before in
+    let laid = c .before .before .before .before in
     walk-first (sound (laid .before)) (laid .lay-out .ensures)
 
 word-requires : tie.Need-word-requires
@@ -68,7 +68,7 @@ returns-2 : tie.Need-returns-2
 returns-2 c =
     let found = c .before .before .before in
     let one = found .before .before .before in
-    let laid = one .before in
+    let laid = one .before .before in
     let fine = sound (laid .before) in
     inr (record {
       none = refl;

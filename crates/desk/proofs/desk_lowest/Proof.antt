@@ -11,7 +11,7 @@ use Rattle.laws.proofs.Truth.{off-on}
 use Rattle.meaning.specs.Theory.{stride}
 use Rattle.meaning.proofs.Refusal.{here, past}
 use Rattle.refusal.proofs.Numbers.{some-number}
-use Rattle.theory.specs.Subject.{subjectOf}
+use Rattle.theory.specs.Subject.{subjectOf, unvalued}
 use Rattle.theory.specs.Answer.{numberGiven, stateGiven, StateAnswered}
 use Rattle.theory.specs.declared.Setting.{Setting}
 use Rattle.theory.specs.declared.StateAnswer.{StateAnswer}
@@ -89,7 +89,7 @@ answer : (c : tie.After-state) → Answers c (c .state .result)
 answer c =
     let log = now (start c .args .log) in
     let r = c .state .result in
-    subst (λ (s : Setting). StateAnswered (subjectOf s (table c) log) (length log) (numberGiven r) (stateGiven r)) (c .before .before .setting .ensures) (c .state .ensures)
+    subst (λ (s : Setting). StateAnswered (subjectOf (unvalued s) (table c) log) (length log) (numberGiven r) (stateGiven r)) (c .before .before .setting .ensures) (c .state .ensures)
 
 short : (c : tie.After-state) → length (now (start c .args .log)) ≤ stepLimit
 short c = omega (arith, c .before .before .before .before .before .if2 .left)

@@ -10,7 +10,7 @@ use lib.ListN.{length, take}
 use Rattle.laws.proofs.Truth.{off-on}
 use Rattle.meaning.specs.Theory.{stride}
 use Rattle.meaning.proofs.Refusal.{here, past}
-use Rattle.theory.specs.Subject.{subjectOf}
+use Rattle.theory.specs.Subject.{subjectOf, unvalued}
 use Rattle.theory.specs.Possible.{numberGiven, verdictGiven, PossibleAnswered}
 use Rattle.theory.specs.declared.PossibleAnswer.{PossibleAnswer}
 use Rattle.theory.specs.declared.Setting.{Setting}
@@ -105,7 +105,7 @@ answer c =
     let short : length log ≤ stepLimit = omega (arith, c .before .before .before .before .before .if3 .left) in
     print-told (a .cartons) (table c) log (right (c .before .before .before .before .before .before .before .before)) (c .before .before .before .fill .ensures) short
     (a .label) (listed (c .before .before .before .before .before .before))
-    (subst (λ (s : Setting). PossibleAnswered (subjectOf s (table c) log) (a .label - 1) (length log) (numberGiven r) (verdictGiven r)) (c .before .before .setting .ensures) (c .possible .ensures))
+    (subst (λ (s : Setting). PossibleAnswered (subjectOf (unvalued s) (table c) log) (a .label - 1) (length log) (numberGiven r) (verdictGiven r)) (c .before .before .setting .ensures) (c .possible .ensures))
 
 returns-4 : tie.Need-returns-4
 returns-4 c =

@@ -11,13 +11,16 @@ use Rattle.laws.proofs.Truth.{off-on}
 use Rattle.meaning.specs.Theory.{Possible, stride, stateAt}
 use Rattle.meaning.specs.Refusal.{Row, Accepted}
 use Rattle.meaning.proofs.Refusal.{here, past, passes, accepts, refused-first, refused-second, accepted-both}
-use Rattle.theory.specs.Subject.{Subject, subjectOf, tableMasks, worldOf}
+use Rattle.theory.specs.Subject.{Subject, subjectOf, unvalued, tableMasks, worldOf}
 use Rattle.theory.specs.Rows.{worldRows}
 use Rattle.theory.specs.Possible.{askedRows, possibleRows}
 use Rattle.theory.specs.Check.{Settled}
 use Rattle.theory.proofs.Reading.{checked, readable}
 use Rattle.theory.proofs.possible.Statement.{statement}
 use Rattle.theory.proofs.possible.Tie as tie
+
+unvalued-requires : tie.Need-unvalued-requires
+unvalued-requires c κs = search needs
 
 check-world-requires : tie.Need-check-world-requires
 check-world-requires c κs = search needs
@@ -30,7 +33,7 @@ enum-told c = search needs
 
 -- what is asked of, and the rows of the world and of what is asked, at the arguments
 abbrev subject : tie.Start → Subject
-subject c = subjectOf (c .args .s) (now (c .args .masks)) (now (c .args .log))
+subject c = subjectOf (unvalued (c .args .s)) (now (c .args .masks)) (now (c .args .log))
 
 abbrev first : tie.Start → List {1} Row
 first c = worldRows (subject c)
@@ -40,7 +43,7 @@ second c = askedRows (subject c) (c .args .action) (c .args .position)
 
 -- the places that the answers look back to
 abbrev start : tie.After-enum-told → tie.Start
-start c = c .before .before .before .before .before
+start c = c .before .before .before .before .before .before
 
 abbrev told : tie.Else1 → tie.After-enum-told
 told c = c .before .before .before
@@ -48,9 +51,16 @@ told c = c .before .before .before
 abbrev asking : tie.After-able → tie.Else2
 asking c = c .before .before
 
+-- what the check finds, of a world without values
+found : (c : tie.After-check-world) → Settled (first (c .before .before .before .before)) (c .check-world .result)
+found c =
+    let s = c .before .before .before .before in
+    subst (λ x. Settled (worldRows (subjectOf x (now (s .args .masks)) (now (s .args .log)))) (c .check-world .result))
+    (c .before .unvalued .ensures) (c .check-world .ensures)
+
 -- the world is sound, in that arm, and the action is one of its own
 sound : (c : tie.After-enum-told) → Accepted (first (start c))
-sound c = subst (Settled (first (start c))) (c .enum-told .given .1) (c .before .before .check-world .ensures)
+sound c = subst (Settled (first (start c))) (c .enum-told .given .1) (found (c .before .before))
 
 returns : tie.Need-returns
 returns c =
@@ -105,8 +115,8 @@ returns-3 c =
 
 returns-4 : tie.Need-returns-4
 returns-4 c =
-    let s = c .before .before .before .before .before .before in
-    let wrong = subst (Settled (first s)) (c .before .r .given .1) (c .before .before .before .check-world .ensures) in
+    let s = c .before .before .before .before .before .before .before in
+    let wrong = subst (Settled (first s)) (c .before .r .given .1) (found (c .before .before .before)) in
     inl (record { refused = refused-first (first s) (second s) wrong; blank = refl })
 
 returns-5 : tie.Need-returns-5
@@ -122,4 +132,4 @@ returns-5 c =
 pub possible-spec : {M : Type 1} → statement M
 possible-spec =
     tie.close
-    (tie.spec check-world-requires enum-known-r enum-told returns returns-2 state-at-requires able-requires returns-3 returns-4 returns-5)
+    (tie.spec unvalued-requires check-world-requires enum-known-r enum-told returns returns-2 state-at-requires able-requires returns-3 returns-4 returns-5)

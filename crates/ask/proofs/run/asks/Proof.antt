@@ -14,6 +14,9 @@ asks-keeping-requires c κs = search needs
 returns : tie.Need-returns
 returns c = search needs
 
+none-bound-requires : tie.Need-none-bound-requires
+none-bound-requires c κs = search needs
+
 slice-aggregate-onward : tie.Need-slice-aggregate-onward
 slice-aggregate-onward c = search needs
 
@@ -21,7 +24,7 @@ onward-requires : tie.Need-onward-requires
 onward-requires c κs = search needs
 
 returns-2 : tie.Need-returns-2
-returns-2 c = ask-exact (nothing-kept 0) (c .before .onward .ensures)
+returns-2 c = ask-exact (nothing-kept 0) (c .before .before .before .before .none-bound .ensures) (c .before .onward .ensures)
 
 pub asks-spec : {M : Type 1} → statement M
-asks-spec = tie.close (tie.spec keeps-requires asks-keeping-requires returns slice-aggregate-onward onward-requires returns-2)
+asks-spec = tie.close (tie.spec keeps-requires asks-keeping-requires returns none-bound-requires slice-aggregate-onward onward-requires returns-2)

@@ -7,6 +7,9 @@ use Rattle.ask.proofs.Runs.{ask-exact}
 use Rattle.ask.proofs.run.asks_keeping.Statement.{statement}
 use Rattle.ask.proofs.run.asks_keeping.Tie as tie
 
+none-bound-requires : tie.Need-none-bound-requires
+none-bound-requires c κs = search needs
+
 slice-aggregate-onward : tie.Need-slice-aggregate-onward
 slice-aggregate-onward c = search needs
 
@@ -14,7 +17,7 @@ onward-requires : tie.Need-onward-requires
 onward-requires c κs = search needs
 
 returns : tie.Need-returns
-returns c = ask-exact (nothing-kept (textLimit + 1)) (c .before .onward .ensures)
+returns c = ask-exact (nothing-kept (textLimit + 1)) (c .before .before .before .before .none-bound .ensures) (c .before .onward .ensures)
 
 pub asks-keeping-spec : {M : Type 1} → statement M
-asks-keeping-spec = tie.close (tie.spec slice-aggregate-onward onward-requires returns)
+asks-keeping-spec = tie.close (tie.spec none-bound-requires slice-aggregate-onward onward-requires returns)

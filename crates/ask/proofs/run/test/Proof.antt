@@ -14,6 +14,9 @@ test-keeping-requires c κs = search needs
 returns : tie.Need-returns
 returns c = search needs
 
+none-bound-requires : tie.Need-none-bound-requires
+none-bound-requires c κs = search needs
+
 slice-aggregate-test : tie.Need-slice-aggregate-test
 slice-aggregate-test c = search needs
 
@@ -21,7 +24,7 @@ test-requires : tie.Need-test-requires
 test-requires c κs = search needs
 
 returns-2 : tie.Need-returns-2
-returns-2 c = test-exact (nothing-kept 0) (c .before .test .ensures)
+returns-2 c = test-exact (nothing-kept 0) (c .before .before .before .before .none-bound .ensures) (c .before .test .ensures)
 
 pub test-spec : {M : Type 1} → statement M
-test-spec = tie.close (tie.spec keeps-requires test-keeping-requires returns slice-aggregate-test test-requires returns-2)
+test-spec = tie.close (tie.spec keeps-requires test-keeping-requires returns none-bound-requires slice-aggregate-test test-requires returns-2)

@@ -7,6 +7,9 @@ use Rattle.ask.proofs.Runs.{test-exact}
 use Rattle.ask.proofs.run.test_keeping.Statement.{statement}
 use Rattle.ask.proofs.run.test_keeping.Tie as tie
 
+none-bound-requires : tie.Need-none-bound-requires
+none-bound-requires c κs = search needs
+
 slice-aggregate-test : tie.Need-slice-aggregate-test
 slice-aggregate-test c = search needs
 
@@ -14,7 +17,7 @@ test-requires : tie.Need-test-requires
 test-requires c κs = search needs
 
 returns : tie.Need-returns
-returns c = test-exact (nothing-kept (textLimit + 1)) (c .before .test .ensures)
+returns c = test-exact (nothing-kept (textLimit + 1)) (c .before .before .before .before .none-bound .ensures) (c .before .test .ensures)
 
 pub test-keeping-spec : {M : Type 1} → statement M
-test-keeping-spec = tie.close (tie.spec slice-aggregate-test test-requires returns)
+test-keeping-spec = tie.close (tie.spec none-bound-requires slice-aggregate-test test-requires returns)

@@ -14,6 +14,9 @@ walk-keeping-requires c κs = search needs
 returns : tie.Need-returns
 returns c = search needs
 
+none-bound-requires : tie.Need-none-bound-requires
+none-bound-requires c κs = search needs
+
 slice-aggregate-walk : tie.Need-slice-aggregate-walk
 slice-aggregate-walk c = search needs
 
@@ -21,7 +24,7 @@ walk-requires : tie.Need-walk-requires
 walk-requires c κs = search needs
 
 returns-2 : tie.Need-returns-2
-returns-2 c = walk-exact (nothing-kept 0) (c .before .walk .ensures)
+returns-2 c = walk-exact (nothing-kept 0) (c .before .before .before .before .none-bound .ensures) (c .before .walk .ensures)
 
 pub walk-spec : {M : Type 1} → statement M
-walk-spec = tie.close (tie.spec keeps-requires walk-keeping-requires returns slice-aggregate-walk walk-requires returns-2)
+walk-spec = tie.close (tie.spec keeps-requires walk-keeping-requires returns none-bound-requires slice-aggregate-walk walk-requires returns-2)

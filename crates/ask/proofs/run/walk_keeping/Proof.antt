@@ -7,6 +7,9 @@ use Rattle.ask.proofs.Runs.{walk-exact}
 use Rattle.ask.proofs.run.walk_keeping.Statement.{statement}
 use Rattle.ask.proofs.run.walk_keeping.Tie as tie
 
+none-bound-requires : tie.Need-none-bound-requires
+none-bound-requires c κs = search needs
+
 slice-aggregate-walk : tie.Need-slice-aggregate-walk
 slice-aggregate-walk c = search needs
 
@@ -14,7 +17,7 @@ walk-requires : tie.Need-walk-requires
 walk-requires c κs = search needs
 
 returns : tie.Need-returns
-returns c = walk-exact (nothing-kept (textLimit + 1)) (c .before .walk .ensures)
+returns c = walk-exact (nothing-kept (textLimit + 1)) (c .before .before .before .before .none-bound .ensures) (c .before .walk .ensures)
 
 pub walk-keeping-spec : {M : Type 1} → statement M
-walk-keeping-spec = tie.close (tie.spec slice-aggregate-walk walk-requires returns)
+walk-keeping-spec = tie.close (tie.spec none-bound-requires slice-aggregate-walk walk-requires returns)

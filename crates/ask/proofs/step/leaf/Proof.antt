@@ -5,7 +5,7 @@ use borrow.Author.Needs.{needs}
 use Rattle.positions.specs.Positions.{holds}
 use Rattle.theory.specs.Tables.{rowHolds}
 use Rattle.rule.proofs.Spread.{within}
-use Rattle.ask.proofs.Leaf.{act-number, undo-number, act-found, undo-found, next-found, prev-found}
+use Rattle.ask.proofs.Leaf.{act-number, undo-number, sum-act-here, sum-undo-here, act-found, undo-found, next-found, sum-act-found, sum-undo-found, prev-found}
 use Rattle.ask.proofs.step.leaf.Statement.{statement}
 use Rattle.ask.proofs.step.leaf.Tie as tie
 
@@ -36,11 +36,23 @@ of-word-requires c κs = search needs
 cross-requires-3 : tie.Need-cross-requires-3
 cross-requires-3 c κs = search needs
 
-of-word-requires-2 : tie.Need-of-word-requires-2
-of-word-requires-2 c κs = search needs
+sum-row-requires : tie.Need-sum-row-requires
+sum-row-requires c κs = (sum-act-here (c .before .before .before .before .pre) (c .match .keys4), omega arith)
 
 cross-requires-4 : tie.Need-cross-requires-4
 cross-requires-4 c κs = search needs
+
+sum-row-requires-2 : tie.Need-sum-row-requires-2
+sum-row-requires-2 c κs = (sum-undo-here (c .before .before .before .before .pre) (c .match .keys5), omega arith)
+
+cross-requires-5 : tie.Need-cross-requires-5
+cross-requires-5 c κs = search needs
+
+of-word-requires-2 : tie.Need-of-word-requires-2
+of-word-requires-2 c κs = search needs
+
+cross-requires-6 : tie.Need-cross-requires-6
+cross-requires-6 c κs = search needs
 
 returns : tie.Need-returns
 returns c = act-found (holds (c .before .row .result)) (c .before .before .match .keys1) (c .before .row .ensures) (c .cross .ensures)
@@ -55,11 +67,17 @@ returns-3 c =
     next-found (holds (ahead .result)) (c .before .before .match .keys3) (λ q. sym (ahead .ensures .bits q)) (c .cross3 .ensures)
 
 returns-4 : tie.Need-returns-4
+returns-4 c = sum-act-found (holds (c .before .sum-row .result)) (c .before .before .match .keys4) (c .before .sum-row .ensures) (c .cross4 .ensures)
+
+returns-5 : tie.Need-returns-5
+returns-5 c = sum-undo-found (holds (c .before .sum-row2 .result)) (c .before .before .match .keys5) (c .before .sum-row2 .ensures) (c .cross5 .ensures)
+
+returns-6 : tie.Need-returns-6
 unfolding rowHolds
-returns-4 c =
+returns-6 c =
     let behind = c .before .of-word2 in
     let none = c .before .before .match .rest in
-    prev-found (holds (behind .result)) (none .0 .0 .1) (none .0 .1) (none .1) (λ q. sym (behind .ensures .bits q)) (c .cross4 .ensures)
+    prev-found (holds (behind .result)) (none .0 .0 .0 .0 .1) (none .0 .0 .0 .1) (none .0 .0 .1) (none .0 .1) (none .1) (λ q. sym (behind .ensures .bits q)) (c .cross6 .ensures)
 
 pub leaf-spec : {M : Type 1} → statement M
 leaf-spec =
@@ -74,9 +92,15 @@ leaf-spec =
     cross-requires-2
     of-word-requires
     cross-requires-3
-    of-word-requires-2
+    sum-row-requires
     cross-requires-4
+    sum-row-requires-2
+    cross-requires-5
+    of-word-requires-2
+    cross-requires-6
     returns
     returns-2
     returns-3
-    returns-4)
+    returns-4
+    returns-5
+    returns-6)

@@ -9,8 +9,8 @@ use denote.Ref.{now}
 use borrow.Fn.Kinds.{In}
 use borrow.Fn.PlainCycle.{Measures, is, falls, and}
 use Rattle.rule.proofs.Spread.{within}
-use Rattle.ask.proofs.Calls.{seq-first, seq-second, alt-first, alt-second, star-part, check-part}
-use Rattle.finish.proofs.Gained.{sign-inside, act-gained, next-gained, seq-gained, alt-gained, may-gained, never-gained, quiet-gained}
+use Rattle.ask.proofs.Calls.{seq-first, seq-second, alt-first, alt-second, star-part, check-part, pick-part}
+use Rattle.finish.proofs.Gained.{sign-inside, act-gained, sum-gained, next-gained, pick-gained, seq-gained, alt-gained, may-gained, never-gained, quiet-gained}
 use Rattle.finish.proofs.Rounds.{Rounds, unseen-short, unseen-apart, round-more, rounds-start, rounds-more, rounds-done}
 use Rattle.finish.proofs.follow.before.Reads as before
 use Rattle.finish.proofs.follow.before.Kinds as before-kinds
@@ -110,6 +110,17 @@ before-rounds-requires t c κs =
 before-may-be-requires : (t : ℕ) → before-lts.Need-may-be-requires (before-calls t) (before-at t) before.Post
 before-may-be-requires t c κs = check-part (c .before .before .before .before .pre .1 .here) (c .match .keys6)
 
+before-stepped-requires-3 : (t : ℕ) → before-lts.Need-stepped-requires-3 (before-calls t) (before-at t) before.Post
+before-stepped-requires-3 t c κs = sign-inside (c .before .before .before .before .before .pre .1)
+
+before-add-body : (t : ℕ) → before-lts.Need-add-body (before-calls t) (before-at t) before.Post
+before-add-body t c = let s = c .before .before .before .before in omega (arith, within (s .pre .1 .here .stands), s .good .0 .0)
+
+before-before-requires-5 : (t : ℕ) → before-lts.Need-before-requires-5 (before-calls t) (before-at t) before.Post
+before-before-requires-5 t c κs =
+    let s = c .before .before .before .before .before in
+    (omega (arith, s .pre .0, within (s .pre .1 .here .stands)), record { here = pick-part (s .pre .1 .here) (c .before .match .keys8); room = s .pre .1 .room })
+
 before-same-length : (t : ℕ) → before-lts.Need-same-length (before-calls t) (before-at t) before.Post
 before-same-length t c = c .before .before .stepped .kept .1 .1 .0
 
@@ -156,11 +167,26 @@ before-returns-6 t c = let a = c .before .before .before .before .before .before
 before-returns-7 : (t : ℕ) → before-lts.Need-returns-7 (before-calls t) (before-at t) before.Post
 before-returns-7 t c = let a = c .before .before .before .before .before .before .args in never-gained (a .ons) (a .offs) (c .before .before .match .keys6) (c .if1 .left) (c .before .may-be .ensures)
 
+before-same-length-6 : (t : ℕ) → before-lts.Need-same-length-6 (before-calls t) (before-at t) before.Post
+before-same-length-6 t c = c .before .before .stepped3 .kept .1 .1 .0
+
 before-returns-8 : (t : ℕ) → before-lts.Need-returns-8 (before-calls t) (before-at t) before.Post
 before-returns-8 t c =
+    let s = c .before .before .before .before .before .before .before .before in
+    let made = c .before .before .stepped3 .ensures in
+    sum-gained (s .args .ons) (s .args .offs) (c .before .before .before .before .match .keys7) (sign-inside (s .pre .1)) (made .0) (made .1)
+
+before-same-length-7 : (t : ℕ) → before-lts.Need-same-length-7 (before-calls t) (before-at t) before.Post
+before-same-length-7 t c = c .before .before .before6 .kept .1 .1 .1 .1 .1 .1 .0
+
+before-returns-9 : (t : ℕ) → before-lts.Need-returns-9 (before-calls t) (before-at t) before.Post
+before-returns-9 t c = let a = c .before .before .before .before .before .before .before .before .args in pick-gained (a .ons) (a .offs) (c .before .before .before .before .match .keys8) (c .before .before .before6 .ensures)
+
+before-returns-10 : (t : ℕ) → before-lts.Need-returns-10 (before-calls t) (before-at t) before.Post
+before-returns-10 t c =
     let a = c .before .before .before .before .args in
     let none = c .match .rest in
-    quiet-gained (a .ons) (a .offs) (none .0 .0 .0 .0 .0 .1) (none .0 .0 .0 .0 .1) (none .0 .0 .0 .1) (none .0 .0 .1) (none .0 .1) (none .1)
+    quiet-gained (a .ons) (a .offs) (none .0 .0 .0 .0 .0 .0 .0 .1) (none .0 .0 .0 .0 .0 .0 .1) (none .0 .0 .0 .0 .0 .1) (none .0 .0 .0 .0 .1) (none .0 .0 .0 .1) (none .0 .0 .1) (none .0 .1) (none .1)
 
 -- ---- rounds
 abbrev rounds-calls : ℕ → rounds-lts.Claims
@@ -248,6 +274,9 @@ pub +before+rounds-spec : {M : Type 1} → statement M
     (before-before-requires-4 t)
     (before-rounds-requires t)
     (before-may-be-requires t)
+    (before-stepped-requires-3 t)
+    (before-add-body t)
+    (before-before-requires-5 t)
     (before-same-length t)
     (before-returns t)
     (before-same-length-2 t)
@@ -260,7 +289,11 @@ pub +before+rounds-spec : {M : Type 1} → statement M
     (before-returns-5 t)
     (before-returns-6 t)
     (before-returns-7 t)
-    (before-returns-8 t))
+    (before-same-length-6 t)
+    (before-returns-8 t)
+    (before-same-length-7 t)
+    (before-returns-9 t)
+    (before-returns-10 t))
     λ t. rounds-lts.spec (rounds-calls t) (rounds-at t) rounds.Post rounds-Inv-loop rounds-μ-loop
     (rounds-add-part t)
     (rounds-slice-read-seen t)

@@ -54,11 +54,11 @@ full : (t : ℕ) (s : lts.Start (calls t) (given t) reads.Post Inv μ-loop) → 
 full t s = length-take-le (s .args .n) (now (s .args .trail)) (omega (arith, s .pre .1 .0 .room, s .pre .1 .0 .fits))
 
 ended-requires : (t : ℕ) → lts.Need-ended-requires (calls t) (given t) reads.Post Inv μ-loop
-ended-requires t c κs = c .before .before .before .before .before .pre .1 .0 .node .stands
+ended-requires t c κs = c .before .before .before .before .before .before .pre .1 .0 .node .stands
 
 returns : (t : ℕ) → lts.Need-returns (calls t) (given t) reads.Post Inv μ-loop
 returns t c =
-    let s = c .before .before .before .before .before .before in
+    let s = c .before .before .before .before .before .before .before in
     let a = s .args in (
       rw (c .before .before .if1 .taken)
           (leaf-told (a .s) (now (a .masks)) (now (a .job)) (now (a .trail)) (now (a .rows)) (a .n) (c .ended .result) (full t s)
@@ -76,10 +76,10 @@ slice-reshare-prefix-tries : (t : ℕ) → lts.Need-slice-reshare-prefix-tries (
 slice-reshare-prefix-tries t c = omega arith
 
 slice-aggregate-tries : (t : ℕ) → lts.Need-slice-aggregate-tries (calls t) (given t) reads.Post Inv μ-loop
-slice-aggregate-tries t c = sym (full t (c .before .before .before .before .before))
+slice-aggregate-tries t c = sym (full t (c .before .before .before .before .before .before))
 
 tries-requires : (t : ℕ) → lts.Need-tries-requires (calls t) (given t) reads.Post Inv μ-loop
-tries-requires t c κs = let s = c .before .before .before .before .before .before in (s .pre .1 .0 .node, s .pre .1 .3)
+tries-requires t c κs = let s = c .before .before .before .before .before .before .before in (s .pre .1 .0 .node, s .pre .1 .3)
 
 loop-holds : (t : ℕ) → lts.Need-loop-holds (calls t) (given t) reads.Post Inv μ-loop
 loop-holds t c = (omega arith, refl, refl, λ x j b h. absurd (omega arith), c .before .before .before .before .before .before .before .before .pre .1 .3 .described)
@@ -101,7 +101,7 @@ act-requires t c κs =
 toggle-requires : (t : ℕ) → lts.Need-toggle-requires (calls t) (given t) reads.Post Inv μ-loop
 toggle-requires t c κs =
     let s = c .before .before .before .before .before .before .before .before .before .before .before .before .before in
-    (c .before .before .before .before .loop .inv .4 .room, omega (arith, s .pre .1 .0 .node .logged .table .few, c .before .before .before .loop-test .taken), omega (arith, s .pre .1 .0 .fits, c .before .before .before .before .before .before .before .before .before .if1 .left))
+    (c .before .before .before .before .loop .inv .4 .room, omega (arith, s .pre .1 .0 .node .logged .table .few, c .before .before .before .loop-test .taken), omega (arith, s .pre .1 .0 .fits, c .before .before .before .before .before .before .before .before .if1 .left))
 
 -- what is known of an action whose bit is on
 possible-here : (t : ℕ) (c : lts.Then2 (calls t) (given t) reads.Post Inv μ-loop) → let s = c .before .before .before .before .before .before .before .before .before .before .before in
@@ -109,17 +109,17 @@ possible-here : (t : ℕ) (c : lts.Then2 (calls t) (given t) reads.Post Inv μ-l
 possible-here t c =
     let s = c .before .before .before .before .before .before .before .before .before .before .before in
     let k = c .before .before .loop in
-    let asked = c .before .before .before .before .tries in
+    let asked = c .before .before .before .tries in
     asked .ensures .able (k .a) (asked-on (asked .result) (s .args .worthy) (k .a) (bit-on _ (k .a) (c .if2 .taken))) .1
 
 complete-requires : (t : ℕ) → lts.Need-complete-requires (calls t) (given t) reads.Post Inv μ-loop
 complete-requires t c κs =
     let s = c .before .before .before .before .before .before .before .before .before .before .before .before .before .before .before .before in
     let a = s .args in
-    let asked = c .before .before .before .before .before .before .before .before .before .tries in
+    let asked = c .before .before .before .before .before .before .before .before .tries in
     let k = c .before .before .before .before .before .before .before .loop in
     let room = place (a .s .counts .actions) (now (a .masks)) (now (a .job)) (now (a .ends)) (now (a .trail)) (k .trail) (a .n) (a .left) (s .pre .1 .0) (k .inv .1) in
-    let more = c .before .before .before .before .before .before .before .before .before .before .before .before .if1 .left in (
+    let more = c .before .before .before .before .before .before .before .before .before .before .before .if1 .left in (
       omega (arith, s .pre .0, more),
       (
         ready-more (a .s .counts .actions) (now (a .masks)) (now (a .job)) (now (a .ends)) (now (a .trail)) (k .trail) (a .n) (a .left) (a .left - 1) (k .a)
@@ -145,15 +145,15 @@ returns-2 t c =
     let a = s .args in
     let k = c .before .before .before .before .before .before .before .before .before .before .before .loop in
     let call = c .before .before .before .complete in
-    let asked = c .before .before .before .before .before .before .before .before .before .before .before .before .before .tries in (
+    let asked = c .before .before .before .before .before .before .before .before .before .before .before .before .tries in (
       tried-told (a .s) (now (a .masks)) (now (a .job)) (now (a .trail)) (k .trail) (call .last .1 .1 .1 .1 .1 .0) (a .n) (a .left)
           (a .left - 1) (k .a) (asked .result)
-          (omega (arith, c .before .before .before .before .before .before .before .before .before .before .before .before .before .before .before .before .if1 .left))
+          (omega (arith, c .before .before .before .before .before .before .before .before .before .before .before .before .before .before .before .if1 .left))
           (place (a .s .counts .actions) (now (a .masks)) (now (a .job)) (now (a .ends)) (now (a .trail)) (k .trail) (a .n) (a .left) (s .pre .1 .0) (k .inv .1))
           (call .kept .1 .1 .1 .1 .1 .0 ∙ length-set (k .trail) (a .n) (k .a))
           (k .inv .2)
           (tried (a .s) (now (a .masks)) (now (a .job)) (take (a .n) (now (a .trail))) (now (a .follow)) (a .left) (a .left - 1) _ (asked .result)
-          (omega (arith, c .before .before .before .before .before .before .before .before .before .before .before .before .before .before .before .before .if1 .left)) (s .pre .1 .1) (asked .ensures) (omega arith))
+          (omega (arith, c .before .before .before .before .before .before .before .before .before .before .before .before .before .before .before .if1 .left)) (s .pre .1 .1) (asked .ensures) (omega arith))
           (asked-on (asked .result) (a .worthy) (k .a) (bit-on _ (k .a) (c .before .before .before .before .before .before .before .before .before .if2 .taken)))
           (k .inv .3)
           (rw (c .if3 .taken) at (call .ensures .0)),
@@ -164,7 +164,7 @@ toggle-requires-2 : (t : ℕ) → lts.Need-toggle-requires-2 (calls t) (given t)
 toggle-requires-2 t c κs =
     let s = c .before .before .before .before .before .before .before .before .before .before .before .before .before .before .before .before .before .before .before .before .before in
     let d = c .before .before .before .before .complete .ensures .1 (c .before .if3 .left) in
-    (d .room, omega (arith, s .pre .1 .0 .node .logged .table .few, c .before .before .before .before .before .before .before .before .before .before .before .loop-test .taken), omega (arith, s .pre .1 .0 .fits, c .before .before .before .before .before .before .before .before .before .before .before .before .before .before .before .before .before .if1 .left))
+    (d .room, omega (arith, s .pre .1 .0 .node .logged .table .few, c .before .before .before .before .before .before .before .before .before .before .before .loop-test .taken), omega (arith, s .pre .1 .0 .fits, c .before .before .before .before .before .before .before .before .before .before .before .before .before .before .before .before .if1 .left))
 
 add-a : (t : ℕ) → lts.Need-add-a (calls t) (given t) reads.Post Inv μ-loop
 add-a t c = omega arith
@@ -184,10 +184,10 @@ loop-again t c =
     let s = c .before .before .before .before .before .before .before .before .before .before .before in
     let a = s .args in
     let k = c .before .before .loop in
-    let asked = c .before .before .before .before .tries in
+    let asked = c .before .before .before .tries in
     let room = behind t (c .before .before) in
     let told = tried (a .s) (now (a .masks)) (now (a .job)) (take (a .n) (now (a .trail))) (now (a .follow)) (a .left) (a .left - 1) _ (asked .result)
-    (omega (arith, c .before .before .before .before .before .before .before .if1 .left)) (s .pre .1 .1) (asked .ensures) (omega arith) in
+    (omega (arith, c .before .before .before .before .before .before .if1 .left)) (s .pre .1 .1) (asked .ensures) (omega arith) in
     ⊎-elim
     (λ w.
     let call = w .6 in

@@ -42,75 +42,75 @@ transpose-requires : tie.Need-transpose-requires Inv-loop μ-loop
 transpose-requires c κs = logged (c .before .before .before .before .before)
 
 ended-requires : tie.Need-ended-requires Inv-loop μ-loop
-ended-requires c κs = c .before .before .before .before .before .before .before .pre .0 .node .stands
+ended-requires c κs = c .before .before .before .before .before .before .before .before .pre .0 .node .stands
 
 same-length : tie.Need-same-length Inv-loop μ-loop
 same-length c = search needs
 
 -- the job over the log as it stands, and where it is not finished so
-as-it-stands : (c : tie.After-ended Inv-loop μ-loop) → let a = c .before .before .before .before .before .before .before .before .args in
+as-it-stands : (c : tie.After-ended Inv-loop μ-loop) → let a = c .before .before .before .before .before .before .before .before .before .args in
     LengthTold (a .s) (now (a .masks)) (now (a .job)) (now (a .trail)) (a .n) 0 (now (a .trail)) (c .ended .result)
 as-it-stands c =
-    let s = c .before .before .before .before .before .before .before .before in
+    let s = c .before .before .before .before .before .before .before .before .before in
     let a = s .args in
-    leaf-told (a .s) (now (a .masks)) (now (a .job)) (now (a .trail)) _ (a .n) (c .ended .result) (full s) (omega (arith, full s, s .pre .0 .fits)) (c .before .before .transpose .ensures) (c .ended .ensures)
+    leaf-told (a .s) (now (a .masks)) (now (a .job)) (now (a .trail)) _ (a .n) (c .ended .result) (full s) (omega (arith, full s, s .pre .0 .fits)) (c .before .before .before .transpose .ensures) (c .ended .ensures)
 
-none-yet : (c : tie.Else1 Inv-loop μ-loop) → let a = c .before .before .before .before .before .before .before .before .before .args in Fewer (a .s) (now (a .masks)) (now (a .job)) (take (a .n) (now (a .trail))) 1
+none-yet : (c : tie.Else1 Inv-loop μ-loop) → let a = c .before .before .before .before .before .before .before .before .before .before .args in Fewer (a .s) (now (a .masks)) (now (a .job)) (take (a .n) (now (a .trail))) 1
 none-yet c =
-    let a = c .before .before .before .before .before .before .before .before .before .args in
+    let a = c .before .before .before .before .before .before .before .before .before .before .args in
     fewer-none (a .s) (now (a .masks)) (now (a .job)) (now (a .trail)) (a .n) (rw (c .if1 .left) at (as-it-stands (c .before)))
 
 returns : tie.Need-returns Inv-loop μ-loop
 returns c =
-    let s = c .before .before .before .before .before .before .before .before .before in
+    let s = c .before .before .before .before .before .before .before .before .before .before in
     let a = s .args in
     at-told (a .s) (now (a .masks)) (now (a .job)) (now (a .trail)) (now (a .trail)) (now (a .trail)) (a .n) (a .more) 0
     (omega (arith, s .pre .0 .room, s .pre .0 .fits)) (omega arith) (omega (arith, s .pre .0 .fits)) refl (λ x i j h. absurd (omega arith)) (rw (c .if1 .taken) at (as-it-stands (c .before)))
 
 longest-requires : tie.Need-longest-requires Inv-loop μ-loop
-longest-requires c κs = omega (arith, c .before .before .before .before .before .before .before .before .before .pre .0 .fits)
+longest-requires c κs = omega (arith, c .before .before .before .before .before .before .before .before .before .before .pre .0 .fits)
 
 same-length-2 : tie.Need-same-length-2 Inv-loop μ-loop
 same-length-2 c = search needs
 
 returns-2 : tie.Need-returns-2 Inv-loop μ-loop
 returns-2 c =
-    let s = c .before .before .before .before .before .before .before .before .before .before .before in
+    let s = c .before .before .before .before .before .before .before .before .before .before .before .before in
     let a = s .args in
     nothing-told (a .s) (now (a .masks)) (now (a .job)) (now (a .trail)) (now (a .trail)) (a .n) (a .more) 1 (omega (arith, s .pre .0 .room, s .pre .0 .fits)) (omega (arith, c .before .longest .ensures, c .if2 .taken)) (none-yet (c .before .before))
 
 worth-requires : tie.Need-worth-requires Inv-loop μ-loop
-worth-requires c κs = c .before .before .before .before .before .before .before .before .before .before .before .pre .0 .node .logged .table
+worth-requires c κs = c .before .before .before .before .before .before .before .before .before .before .before .before .pre .0 .node .logged .table
 
 slice-reshare-prefix-fill : tie.Need-slice-reshare-prefix-fill Inv-loop μ-loop
-slice-reshare-prefix-fill c = omega (arith, c .before .before .before .before .before .before .before .before .before .before .before .before .pre .0 .room, c .before .before .before .before .before .before .before .before .before .before .before .before .pre .0 .fits)
+slice-reshare-prefix-fill c = omega (arith, c .before .before .before .before .before .before .before .before .before .before .before .before .before .pre .0 .room, c .before .before .before .before .before .before .before .before .before .before .before .before .before .pre .0 .fits)
 
 slice-aggregate-fill : tie.Need-slice-aggregate-fill Inv-loop μ-loop
-slice-aggregate-fill c = sym (full (c .before .before .before .before .before .before .before .before .before .before .before .before .before))
+slice-aggregate-fill c = sym (full (c .before .before .before .before .before .before .before .before .before .before .before .before .before .before))
 
 slice-aggregate-fill-2 : tie.Need-slice-aggregate-fill-2 Inv-loop μ-loop
 slice-aggregate-fill-2 c = search needs
 
 fill-requires : tie.Need-fill-requires Inv-loop μ-loop
 fill-requires c κs =
-    let s = c .before .before .before .before .before .before .before .before .before .before .before .before .before .before in
+    let s = c .before .before .before .before .before .before .before .before .before .before .before .before .before .before .before in
     record { node = s .pre .0 .node; short = s .pre .1; empty = refl }
 
 slice-reshare-prefix-state-at : tie.Need-slice-reshare-prefix-state-at Inv-loop μ-loop
-slice-reshare-prefix-state-at c = omega (arith, c .before .before .before .before .before .before .before .before .before .before .before .before .before .before .before .before .pre .0 .room, c .before .before .before .before .before .before .before .before .before .before .before .before .before .before .before .before .pre .0 .fits)
+slice-reshare-prefix-state-at c = omega (arith, c .before .before .before .before .before .before .before .before .before .before .before .before .before .before .before .before .before .pre .0 .room, c .before .before .before .before .before .before .before .before .before .before .before .before .before .before .before .before .before .pre .0 .fits)
 
 slice-aggregate-state-at : tie.Need-slice-aggregate-state-at Inv-loop μ-loop
-slice-aggregate-state-at c = sym (full (c .before .before .before .before .before .before .before .before .before .before .before .before .before .before .before .before .before))
+slice-aggregate-state-at c = sym (full (c .before .before .before .before .before .before .before .before .before .before .before .before .before .before .before .before .before .before))
 
 state-at-requires : tie.Need-state-at-requires Inv-loop μ-loop
-state-at-requires c κs = let s = c .before .before .before .before .before .before .before .before .before .before .before .before .before .before .before .before .before in (omega (arith, full s), logged s)
+state-at-requires c κs = let s = c .before .before .before .before .before .before .before .before .before .before .before .before .before .before .before .before .before .before in (omega (arith, full s), logged s)
 
 loop-holds : tie.Need-loop-holds Inv-loop μ-loop
-loop-holds c = (omega arith, omega (arith, c .before .before .before .before .before .before .before .before .longest .ensures), refl, refl, none-yet (c .before .before .before .before .before .before .before .before .before), c .before .before .before .before .before .before .before .before .before .before .before .before .transpose .ensures)
+loop-holds c = (omega arith, omega (arith, c .before .before .before .before .before .before .before .before .longest .ensures), refl, refl, none-yet (c .before .before .before .before .before .before .before .before .before), c .before .before .before .before .before .before .before .before .before .before .before .before .before .transpose .ensures)
 
 complete-requires : tie.Need-complete-requires Inv-loop μ-loop
 complete-requires c κs =
-    let s = c .before .before .before .before .before .before .before .before .before .before .before .before .before .before .before .before .before .before .before .before .before .before .before in
+    let s = c .before .before .before .before .before .before .before .before .before .before .before .before .before .before .before .before .before .before .before .before .before .before .before .before in
     let a = s .args in
     let k = c .before .before .before .before .loop in
     let w = worldOf (subjectOf (a .s) (now (a .masks)) (take (a .n) (now (a .trail)))) in
@@ -128,7 +128,7 @@ same-length-3 c = c .before .before .before .complete .kept .1 .1 .1 .1 .1 .0 �
 
 returns-3 : tie.Need-returns-3 Inv-loop μ-loop
 returns-3 c =
-    let s = c .before .before .before .before .before .before .before .before .before .before .before .before .before .before .before .before .before .before .before .before .before .before .before .before .before .before .before in
+    let s = c .before .before .before .before .before .before .before .before .before .before .before .before .before .before .before .before .before .before .before .before .before .before .before .before .before .before .before .before in
     let a = s .args in
     let k = c .before .before .before .before .before .before .before .before .loop in
     let call = c .before .before .before .complete in
@@ -137,14 +137,14 @@ returns-3 c =
     (k .inv .3) (k .inv .4) (rw (c .if3 .taken) at (call .ensures .0))
 
 add-k : tie.Need-add-k Inv-loop μ-loop
-add-k c = omega (arith, c .before .before .before .before .before .before .before .before .before .before .before .before .before .before .before .before .before .longest .ensures, c .before .before .before .before .before .before .before .loop-test .taken, c .before .before .before .before .before .before .before .before .before .before .before .before .before .before .before .before .before .before .before .before .before .before .before .before .before .before .before .pre .0 .fits)
+add-k c = omega (arith, c .before .before .before .before .before .before .before .before .before .before .before .before .before .before .before .before .before .longest .ensures, c .before .before .before .before .before .before .before .loop-test .taken, c .before .before .before .before .before .before .before .before .before .before .before .before .before .before .before .before .before .before .before .before .before .before .before .before .before .before .before .before .pre .0 .fits)
 
 loop-less : tie.Need-loop-less Inv-loop μ-loop
 loop-less c = omega (arith, c .before .before .before .before .before .before .before .loop-test .taken)
 
 loop-again : tie.Need-loop-again Inv-loop μ-loop
 loop-again c =
-    let a = c .before .before .before .before .before .before .before .before .before .before .before .before .before .before .before .before .before .before .before .before .before .before .before .before .before .before .before .args in
+    let a = c .before .before .before .before .before .before .before .before .before .before .before .before .before .before .before .before .before .before .before .before .before .before .before .before .before .before .before .before .args in
     let k = c .before .before .before .before .before .before .before .before .loop in
     let call = c .before .before .before .complete in
     let last = call .last .1 .1 .1 .1 .1 .0 in
@@ -163,7 +163,7 @@ same-length-4 c = c .before .loop .inv .2
 
 returns-4 : tie.Need-returns-4 Inv-loop μ-loop
 returns-4 c =
-    let s = c .before .before .before .before .before .before .before .before .before .before .before .before .before .before .before .before .before .before .before .before in
+    let s = c .before .before .before .before .before .before .before .before .before .before .before .before .before .before .before .before .before .before .before .before .before in
     let a = s .args in
     let k = c .before .loop in
     nothing-told (a .s) (now (a .masks)) (now (a .job)) (now (a .trail)) (k .trail) (a .n) (a .more) (k .k) (omega (arith, s .pre .0 .room, s .pre .0 .fits)) (omega (arith, c .before .before .before .before .before .before .before .before .before .before .longest .ensures, c .loop-test .left)) (k .inv .4)

@@ -1,12 +1,15 @@
 -- `finish::standins::worth` meets its contract: all actions, or those that are not sifted out.
+use mathlib.Core.Path.{refl}
+use mathlib.Core.Bool.{true}
 use denote.Ref.{now}
 use borrow.Author.Needs.{needs}
+use Rattle.laws.proofs.Truth.{implies-iff}
 use Rattle.finish.proofs.Stood.{all-worth, sifted-worth}
 use Rattle.finish.proofs.standins.worth.Statement.{statement}
 use Rattle.finish.proofs.standins.worth.Tie as tie
 
-takes-any-requires : tie.Need-takes-any-requires
-takes-any-requires c κs = search needs
+takes-others-requires : tie.Need-takes-others-requires
+takes-others-requires c κs = search needs
 
 returns : tie.Need-returns
 returns c =
@@ -32,17 +35,18 @@ returns-2 : tie.Need-returns-2
 returns-2 c =
     let s = c .before .before .before .before .before .before .before .before .before .before in
     let a = s .args in
+    let takes = c .before .before .before .before .before .before .before .takes-others in
     let labels = c .before .before .before .before .named in
     let fluents = c .before .before .before .named2 in
     let tested = c .before .wide in
     sifted-worth (a .s) (now (a .masks)) (now (a .job)) (labels .result) (fluents .result) (tested .result) (c .sifted .result) (s .pre)
-    (labels .ensures) (fluents .ensures) (rw (tested .ensures) (c .before .before .decisive .ensures)) (c .sifted .ensures)
+    (takes .ensures (implies-iff true (takes .result) .0 (c .before .before .before .before .before .before .if1 .left) refl)) (labels .ensures) (fluents .ensures) (rw (tested .ensures) (c .before .before .decisive .ensures)) (c .sifted .ensures)
 
 pub worth-spec : {M : Type 1} → statement M
 worth-spec =
     tie.close
     (tie.spec
-    takes-any-requires
+    takes-others-requires
     returns
     named-requires
     named-requires-2

@@ -1,16 +1,19 @@
 -- `finish::tries::tries` meets its contract: an action that is not possible, or that the job does not ask for, begins no rest.
+use mathlib.Core.Path.{refl}
 use native.Mathlib.Omega.{arith}
 use denote.Ref.{now}
 use lib.ListN.{length}
 use Rattle.meaning.specs.Lengths.{allows}
+use Rattle.ask.specs.Values.{unbound}
 use Rattle.ask.specs.Found.{Tabled}
+use Rattle.ask.proofs.Bound.{bears-none}
 use Rattle.theory.specs.Subject.{subjectOf, worldOf}
 use Rattle.finish.proofs.LeftOut.{asked-able, asked-next}
 use Rattle.finish.proofs.tries.tries.Statement.{statement}
 use Rattle.finish.proofs.tries.tries.Tie as tie
 
 asked-requires : tie.Need-asked-requires
-asked-requires c κs = c .before .before .before .pre .0 .stands
+asked-requires c κs = c .before .before .before .before .pre .0 .stands
 
 doable-requires : tie.Need-doable-requires
 doable-requires c κs = c .before .before .before .before .before .pre .0 .logged .table
@@ -20,8 +23,9 @@ returns c =
     let s = c .before .before .before .before .before .before in
     let a = s .args in
     let subject = subjectOf (a .s) (now (a .masks)) (now (a .log)) in
-    let asked = c .before .before .asked in
-    let tabled : Tabled (worldOf subject) (now (a .rows)) (length (now (a .log))) = record { described = s .pre .1 .described; logged = omega arith; room = s .pre .0 .logged .short } in
+    let asked = c .before .asked in
+    let tabled : Tabled (worldOf subject) (now (a .rows)) (unbound (a .s .counts .domain)) (length (now (a .log))) =
+    record { described = s .pre .1 .described; logged = omega arith; room = s .pre .0 .logged .short; bears = bears-none (worldOf subject) refl } in
     record {
       able = asked-able subject (a .state) (c .doable .result) (asked .result) (s .pre .1 .here) (c .doable .ensures);
       each = λ x j.

@@ -6,8 +6,8 @@ use borrow.Author.Needs.{needs}
 use borrow.Fn.Kinds.{In}
 use borrow.Fn.PlainCycle.{Measures, is, falls, and}
 use Rattle.rule.proofs.Spread.{within}
-use Rattle.ask.proofs.Calls.{neg-part, both-first, both-second}
-use Rattle.finish.proofs.May.{always-may, on-may, off-may, neg-may, both-may, some-may}
+use Rattle.ask.proofs.Calls.{neg-part, both-first, both-second, exists-part}
+use Rattle.finish.proofs.May.{always-may, on-may, off-may, neg-may, both-may, exists-may, some-may}
 use Rattle.finish.proofs.truth.may_be.Reads as reads
 use Rattle.finish.proofs.truth.may_be.Kinds as kinds
 use Rattle.finish.proofs.truth.+may_be.Lts-may_be as lts
@@ -72,6 +72,14 @@ may-be-requires-3 t c κs =
 joined-requires : (t : ℕ) → lts.Need-joined-requires (calls t) (given t) reads.Post
 joined-requires t c κs = search needs
 
+add-body : (t : ℕ) → lts.Need-add-body (calls t) (given t) reads.Post
+add-body t c = let s = c .before .before .before .before in omega (arith, within (s .pre .1 .stands), s .good .0 .0)
+
+may-be-requires-4 : (t : ℕ) → lts.Need-may-be-requires-4 (calls t) (given t) reads.Post
+may-be-requires-4 t c κs =
+    let s = c .before .before .before .before in
+    (omega (arith, within (s .pre .1 .stands), s .pre .0), exists-part (s .pre .1) (c .before .match .keys5))
+
 returns : (t : ℕ) → lts.Need-returns (calls t) (given t) reads.Post
 returns t c = let a = c .before .before .before .args in always-may (a .ons) (a .offs) (a .truth) (c .match .keys1)
 
@@ -98,7 +106,15 @@ returns-5 t c =
     (c .before .before .before .before .before .match .keys4) (c .joined .ensures) (c .before .before .may-be2 .ensures) (c .before .may-be3 .ensures)
 
 returns-6 : (t : ℕ) → lts.Need-returns-6 (calls t) (given t) reads.Post
-returns-6 t c = let a = c .before .before .before .args in some-may (a .ons) (a .offs) (a .truth)
+returns-6 t c =
+    let a = c .before .before .before .before .before .args in
+    rw (c .before .if2 .taken) (exists-may (a .ons) (a .offs) (c .before .before .match .keys5) (c .may-be4 .ensures))
+
+returns-7 : (t : ℕ) → lts.Need-returns-7 (calls t) (given t) reads.Post
+returns-7 t c = let a = c .before .before .before .before .args in some-may (a .ons) (a .offs) (a .truth)
+
+returns-8 : (t : ℕ) → lts.Need-returns-8 (calls t) (given t) reads.Post
+returns-8 t c = let a = c .before .before .before .args in some-may (a .ons) (a .offs) (a .truth)
 
 pub +may-be-spec : {M : Type 1} → statement M
 +may-be-spec = close μ λ t. lts.spec (calls t) (given t) reads.Post
@@ -111,9 +127,13 @@ pub +may-be-spec : {M : Type 1} → statement M
     (may-be-requires-2 t)
     (may-be-requires-3 t)
     (joined-requires t)
+    (add-body t)
+    (may-be-requires-4 t)
     (returns t)
     (returns-2 t)
     (returns-3 t)
     (returns-4 t)
     (returns-5 t)
     (returns-6 t)
+    (returns-7 t)
+    (returns-8 t)

@@ -29,6 +29,7 @@ use Rattle.normal.proofs.rewrite.walk.Reads as walk
 use Rattle.normal.proofs.rewrite.walk.Kinds as walk-kinds
 use Rattle.normal.proofs.rewrite.+test+walk.Lts-walk as walk-lts
 use Rattle.normal.proofs.rewrite.facing.Reads as facing
+use Rattle.normal.proofs.rewrite.letter.Reads as letter
 use Rattle.normal.proofs.rewrite.number.Reads as number
 use Rattle.normal.proofs.rewrite.order.Reads as order
 use Rattle.normal.proofs.write.put.Reads as put
@@ -57,10 +58,10 @@ abbrev walk-below : ℕ → In 3 walk-kinds.ps
 walk-below t = and 3 walk-kinds.ps (falls 3 walk-kinds.ps _<_ μ-walk t) walk.Pre
 
 abbrev test-calls : ℕ → test-lts.Claims
-test-calls t = (put.Asked, put.Learnt, sign-of.Asked, sign-of.Learnt, number.Asked, number.Learnt, test-below t, test.Post, second-part.Asked, second-part.Learnt, walk-below t, walk.Post)
+test-calls t = (put.Asked, put.Learnt, sign-of.Asked, sign-of.Learnt, number.Asked, number.Learnt, test-below t, test.Post, second-part.Asked, second-part.Learnt, letter.Asked, letter.Learnt, walk-below t, walk.Post)
 
 abbrev walk-calls : ℕ → walk-lts.Claims
-walk-calls t = (walk-below t, walk.Post, facing.Asked, facing.Learnt, put.Asked, put.Learnt, sign-of.Asked, sign-of.Learnt, number.Asked, number.Learnt, test-below t, test.Post, second-part.Asked, second-part.Learnt, order.Asked, order.Learnt)
+walk-calls t = (walk-below t, walk.Post, facing.Asked, facing.Learnt, put.Asked, put.Learnt, sign-of.Asked, sign-of.Learnt, number.Asked, number.Learnt, test-below t, test.Post, letter.Asked, letter.Learnt, second-part.Asked, second-part.Learnt, order.Asked, order.Learnt)
 
 -- The place where the sign of a test is written and looked up, the place where it was written, and the start.
 abbrev Test-sign : ℕ → Type 0
@@ -86,13 +87,13 @@ test-signed : (t : ℕ) (s : Test-sign t)
 test-signed t s = record { put = test-put t s .put .ensures }
 
 -- what is left for the last arm
-test-last : (t : ℕ) (c : test-lts.At-match-keys5 (test-calls t) (test-at t) test.Post)
+test-last : (t : ℕ) (c : test-lts.At-match-keys7 (test-calls t) (test-at t) test.Post)
     → WalkThenTest ≡ signOf (getD (test-text t (c .before)) (test-start t (c .before) .args .at) 0)
 test-last t c =
     let s = c .before in
     walk-test (test-here t (test-start t s) .stands) (s .sign-of .ensures)
-    (among (λ (x : Sign). (x ≡ WalkThenTest) ⊎ NoTest x) (0 ∷ (1 ∷ (2 ∷ (3 ∷ (4 ∷ (9 ∷ (10 ∷ [])))))))
-    (inr tt, (inr tt, (inr tt, (inr tt, (inr tt, (inl refl, (inr tt, tt))))))) (s .sign-of .result) (c .match .keys5))
+    (among (λ (x : Sign). (x ≡ WalkThenTest) ⊎ NoTest x) (0 ∷ (1 ∷ (2 ∷ (3 ∷ (4 ∷ (9 ∷ (10 ∷ (11 ∷ (14 ∷ [])))))))))
+    (inr tt, (inr tt, (inr tt, (inr tt, (inr tt, (inl refl, (inr tt, (inr tt, (inr tt, tt))))))))) (s .sign-of .result) (c .match .keys7))
 
 -- The same places of a walk.
 abbrev Walk-sign : ℕ → Type 0
@@ -122,13 +123,13 @@ walk-signed t s =
     let a = walk-start t s .args in
     record { put = walk-put t s .put .ensures ∙ ap (set (a .out .now) (a .to)) (walk-put t s .before .facing .ensures) }
 
-walk-last : (t : ℕ) (c : walk-lts.At-match-keys5 (walk-calls t) (walk-at t) walk.Post)
+walk-last : (t : ℕ) (c : walk-lts.At-match-keys7 (walk-calls t) (walk-at t) walk.Post)
     → TwoWalks ≡ signOf (getD (walk-text t (c .before)) (walk-start t (c .before) .args .at) 0)
 walk-last t c =
     let s = c .before in
     two-walks (walk-here t (walk-start t s) .stands) (s .sign-of .ensures)
-    (among (λ (x : Sign). (x ≡ TwoWalks) ⊎ NoWalk x) (4 ∷ (5 ∷ (6 ∷ (7 ∷ (8 ∷ (9 ∷ (10 ∷ [])))))))
-    (inl refl, (inr tt, (inr tt, (inr tt, (inr tt, (inr tt, (inr tt, tt))))))) (s .sign-of .result) (c .match .keys5))
+    (among (λ (x : Sign). (x ≡ TwoWalks) ⊎ NoWalk x) (4 ∷ (5 ∷ (6 ∷ (7 ∷ (8 ∷ (9 ∷ (12 ∷ (13 ∷ (14 ∷ [])))))))))
+    (inl refl, (inr tt, (inr tt, (inr tt, (inr tt, (inr tt, (inr tt, (inr tt, (inr tt, tt))))))))) (s .sign-of .result) (c .match .keys7))
 
 -- the order in which its two parts are written
 abbrev walk-order : (t : ℕ) → (c : walk-lts.After-order (walk-calls t) (walk-at t) walk.Post) → Walk-sign t
@@ -214,8 +215,8 @@ test-walk-requires t c κs =
     let s = m .before in
     (omega (arith, test-start t s .pre .0, asked.test-in (test-here t (test-start t s))), asked.diamond-first (test-here t (test-start t s)) (test-last t m))
 
-test-test-requires-4 : (t : ℕ) → test-lts.Need-test-requires-4 (test-calls t) (test-at t) test.Post
-test-test-requires-4 t c κs =
+test-test-requires-5 : (t : ℕ) → test-lts.Need-test-requires-5 (test-calls t) (test-at t) test.Post
+test-test-requires-5 t c κs =
     let first = c .before .before .before in
     let found = first .before .before in
     let s = found .before .before in
@@ -266,19 +267,75 @@ test-returns-4 t c =
     let s = found .before .before .before in
     test-arms.both-written (test-signed t s) (test-here t (test-start t s) .marked .table) (found .second .ensures) (second .test3 .ensures) (sym (found .before .enum-told4 .given .1) ∙ s .sign-of .ensures) (first .test2 .ensures)
 
+test-enum-told-5 : (t : ℕ) → test-lts.Need-enum-told-5 (test-calls t) (test-at t) test.Post
+test-enum-told-5 t c = search needs
+
+test-number-requires-2 : (t : ℕ) → test-lts.Need-number-requires-2 (test-calls t) (test-at t) test.Post
+test-number-requires-2 t c κs =
+    let s = c .before .before .before in
+    asked.sum-fluent-here (test-here t (test-start t s)) (sym (c .before .enum-told5 .given .1) ∙ s .sign-of .ensures) .0
+
+test-add-letter : (t : ℕ) → test-lts.Need-add-letter (test-calls t) (test-at t) test.Post
+test-add-letter t c =
+    let s = c .before .before .before .before .before .before in
+    omega (arith, asked.test-next (test-here t (test-start t s)))
+
+test-letter-requires : (t : ℕ) → test-lts.Need-letter-requires (test-calls t) (test-at t) test.Post
+test-letter-requires t c κs =
+    let s = c .before .before .before .before .before .before .before in
+    asked.letter-next (test-start t s .args .to) (c .before .before .before .number2 .ensures) (asked.sum-fluent-here (test-here t (test-start t s)) (sym (c .before .before .before .before .before .enum-told5 .given .1) ∙ s .sign-of .ensures) .1)
+
+test-enum-told-6 : (t : ℕ) → test-lts.Need-enum-told-6 (test-calls t) (test-at t) test.Post
+test-enum-told-6 t c = search needs
+
+test-letter-requires-2 : (t : ℕ) → test-lts.Need-letter-requires-2 (test-calls t) (test-at t) test.Post
+test-letter-requires-2 t c κs =
+    let s = c .before .before .before in
+    asked.exists-here (test-here t (test-start t s)) (sym (c .before .enum-told6 .given .1) ∙ s .sign-of .ensures) .0
+
+test-add-test : (t : ℕ) → test-lts.Need-add-test (test-calls t) (test-at t) test.Post
+test-add-test t c =
+    let s = c .before .before .before .before .before .before in
+    omega (arith, asked.test-next (test-here t (test-start t s)))
+
+test-test-requires-4 : (t : ℕ) → test-lts.Need-test-requires-4 (test-calls t) (test-at t) test.Post
+test-test-requires-4 t c κs =
+    let s = c .before .before .before .before .before .before .before in
+    (omega (arith, test-start t s .pre .0, asked.test-in (test-here t (test-start t s))), asked.test-behind (test-start t s .args .to) (c .before .before .before .letter2 .ensures) (asked.exists-here (test-here t (test-start t s)) (sym (c .before .before .before .before .before .enum-told6 .given .1) ∙ s .sign-of .ensures) .1))
+
 test-same-length-5 : (t : ℕ) → test-lts.Need-same-length-5 (test-calls t) (test-at t) test.Post
 test-same-length-5 t c =
-    let first = c .before .before .before .before .before .before in
-    let s = first .before .before .before .before in
-    c .before .before .test4 .kept .1 .1 .1 .0 ∙ first .walk .kept .1 .1 .1 .1 .0 ∙ test-put t s .put .kept .0
+    let s = c .before .before .before .before .before .before .before .before .before .before in
+    c .before .before .letter .kept .1 .1 .0 ∙ c .before .before .before .before .before .before .number2 .kept .1 .1 .0 ∙ test-put t s .put .kept .0
 
 test-returns-5 : (t : ℕ) → test-lts.Need-returns-5 (test-calls t) (test-at t) test.Post
 test-returns-5 t c =
+    let s = c .before .before .before .before .before .before .before .before .before .before in
+    test-arms.sum-written (test-signed t s) (sym (c .before .before .before .before .before .before .before .before .enum-told5 .given .1) ∙ s .sign-of .ensures) (c .before .before .before .before .before .before .number2 .ensures) (c .before .before .letter .ensures)
+
+test-same-length-6 : (t : ℕ) → test-lts.Need-same-length-6 (test-calls t) (test-at t) test.Post
+test-same-length-6 t c =
+    let s = c .before .before .before .before .before .before .before .before .before .before in
+    c .before .before .test4 .kept .1 .1 .1 .0 ∙ c .before .before .before .before .before .before .letter2 .kept .1 .1 .0 ∙ test-put t s .put .kept .0
+
+test-returns-6 : (t : ℕ) → test-lts.Need-returns-6 (test-calls t) (test-at t) test.Post
+test-returns-6 t c =
+    let s = c .before .before .before .before .before .before .before .before .before .before in
+    test-arms.exists-written (test-signed t s) (sym (c .before .before .before .before .before .before .before .before .enum-told6 .given .1) ∙ s .sign-of .ensures) (c .before .before .before .before .before .before .letter2 .ensures) (c .before .before .test4 .ensures)
+
+test-same-length-7 : (t : ℕ) → test-lts.Need-same-length-7 (test-calls t) (test-at t) test.Post
+test-same-length-7 t c =
+    let first = c .before .before .before .before .before .before in
+    let s = first .before .before .before .before in
+    c .before .before .test5 .kept .1 .1 .1 .0 ∙ first .walk .kept .1 .1 .1 .1 .0 ∙ test-put t s .put .kept .0
+
+test-returns-7 : (t : ℕ) → test-lts.Need-returns-7 (test-calls t) (test-at t) test.Post
+test-returns-7 t c =
     let second = c .before .before in
     let first = second .before .before .before .before in
     let found = first .before .before in
     let s = found .before .before in
-    test-arms.diamond-written (test-signed t s) (test-here t (test-start t s) .marked .table) (found .second2 .ensures) (second .test4 .ensures) (test-last t (found .before)) (first .walk .ensures)
+    test-arms.diamond-written (test-signed t s) (test-here t (test-start t s) .marked .table) (found .second2 .ensures) (second .test5 .ensures) (test-last t (found .before)) (first .walk .ensures)
 
 walk-shared-slice-read-sign : (t : ℕ) → walk-lts.Need-shared-slice-read-sign (walk-calls t) (walk-at t) walk.Post
 walk-shared-slice-read-sign t c = asked.walk-in (walk-here t (c .before .before .before))
@@ -351,19 +408,19 @@ walk-second-requires t c κs =
 walk-order-requires : (t : ℕ) → walk-lts.Need-order-requires (walk-calls t) (walk-at t) walk.Post
 walk-order-requires t c κs = tt
 
-walk-walk-requires-3 : (t : ℕ) → walk-lts.Need-walk-requires-3 (walk-calls t) (walk-at t) walk.Post
-walk-walk-requires-3 t c κs =
+walk-walk-requires-4 : (t : ℕ) → walk-lts.Need-walk-requires-4 (walk-calls t) (walk-at t) walk.Post
+walk-walk-requires-4 t c κs =
     let o = c .before in
     let s = walk-order t o in
     let h = asked.first-here (walk-here t (walk-start t s)) (o .order .result) (walk-swapped t o) (walk-ordered t o) (walk-last t (o .before .before)) in
     (omega (arith, walk-start t s .pre .0, asked.walk-in (walk-here t (walk-start t s)), h .1), h .0)
 
-walk-walk-requires-4 : (t : ℕ) → walk-lts.Need-walk-requires-4 (walk-calls t) (walk-at t) walk.Post
-walk-walk-requires-4 t c κs =
+walk-walk-requires-5 : (t : ℕ) → walk-lts.Need-walk-requires-5 (walk-calls t) (walk-at t) walk.Post
+walk-walk-requires-5 t c κs =
     let first = c .before .before .before in
     let o = first .before .before in
     let s = walk-order t o in
-    let h = asked.second-here (walk-here t (walk-start t s)) (o .order .result) (walk-swapped t o) (walk-ordered t o) (walk-start t s .args .back) (walk-last t (o .before .before)) (first .walk3 .ensures) in
+    let h = asked.second-here (walk-here t (walk-start t s)) (o .order .result) (walk-swapped t o) (walk-ordered t o) (walk-start t s .args .back) (walk-last t (o .before .before)) (first .walk4 .ensures) in
     (omega (arith, walk-start t s .pre .0, asked.walk-in (walk-here t (walk-start t s)), h .1), h .0)
 
 walk-same-length-2 : (t : ℕ) → walk-lts.Need-same-length-2 (walk-calls t) (walk-at t) walk.Post
@@ -406,19 +463,75 @@ walk-returns-5 t c =
     let s = c .before .before .before .before .before .before in
     arms.check-written (walk-start t s .args .back) (walk-signed t s) (sym (c .before .before .before .before .enum-told4 .given .1) ∙ s .sign-of .ensures) (c .before .before .test .ensures)
 
+walk-enum-told-5 : (t : ℕ) → walk-lts.Need-enum-told-5 (walk-calls t) (walk-at t) walk.Post
+walk-enum-told-5 t c = search needs
+
+walk-number-requires-2 : (t : ℕ) → walk-lts.Need-number-requires-2 (walk-calls t) (walk-at t) walk.Post
+walk-number-requires-2 t c κs =
+    let s = c .before .before .before in
+    asked.sum-here (walk-here t (walk-start t s)) (sym (c .before .enum-told5 .given .1) ∙ s .sign-of .ensures) .0
+
+walk-add-letter : (t : ℕ) → walk-lts.Need-add-letter (walk-calls t) (walk-at t) walk.Post
+walk-add-letter t c =
+    let s = c .before .before .before .before .before .before in
+    omega (arith, asked.walk-next (walk-here t (walk-start t s)))
+
+walk-letter-requires : (t : ℕ) → walk-lts.Need-letter-requires (walk-calls t) (walk-at t) walk.Post
+walk-letter-requires t c κs =
+    let s = c .before .before .before .before .before .before .before in
+    asked.letter-next (walk-start t s .args .to) (c .before .before .before .number2 .ensures) (asked.sum-here (walk-here t (walk-start t s)) (sym (c .before .before .before .before .before .enum-told5 .given .1) ∙ s .sign-of .ensures) .1)
+
+walk-enum-told-6 : (t : ℕ) → walk-lts.Need-enum-told-6 (walk-calls t) (walk-at t) walk.Post
+walk-enum-told-6 t c = search needs
+
+walk-letter-requires-2 : (t : ℕ) → walk-lts.Need-letter-requires-2 (walk-calls t) (walk-at t) walk.Post
+walk-letter-requires-2 t c κs =
+    let s = c .before .before .before in
+    asked.pick-here (walk-here t (walk-start t s)) (sym (c .before .enum-told6 .given .1) ∙ s .sign-of .ensures) .0
+
+walk-add-walk : (t : ℕ) → walk-lts.Need-add-walk (walk-calls t) (walk-at t) walk.Post
+walk-add-walk t c =
+    let s = c .before .before .before .before .before .before in
+    omega (arith, asked.walk-next (walk-here t (walk-start t s)))
+
+walk-walk-requires-3 : (t : ℕ) → walk-lts.Need-walk-requires-3 (walk-calls t) (walk-at t) walk.Post
+walk-walk-requires-3 t c κs =
+    let s = c .before .before .before .before .before .before .before in
+    (omega (arith, walk-start t s .pre .0, asked.walk-in (walk-here t (walk-start t s))), asked.walk-behind (walk-start t s .args .to) (c .before .before .before .letter2 .ensures) (asked.pick-here (walk-here t (walk-start t s)) (sym (c .before .before .before .before .before .enum-told6 .given .1) ∙ s .sign-of .ensures) .1))
+
 walk-same-length-6 : (t : ℕ) → walk-lts.Need-same-length-6 (walk-calls t) (walk-at t) walk.Post
 walk-same-length-6 t c =
-    let first = c .before .before .before .before .before .before in
-    let s = first .before .before .before .before .before in
-    c .before .before .walk4 .kept .1 .1 .1 .1 .0 ∙ first .walk3 .kept .1 .1 .1 .1 .0 ∙ walk-put t s .put .kept .0
+    let s = c .before .before .before .before .before .before .before .before .before .before in
+    c .before .before .letter .kept .1 .1 .0 ∙ c .before .before .before .before .before .before .number2 .kept .1 .1 .0 ∙ walk-put t s .put .kept .0
 
 walk-returns-6 : (t : ℕ) → walk-lts.Need-returns-6 (walk-calls t) (walk-at t) walk.Post
 walk-returns-6 t c =
+    let s = c .before .before .before .before .before .before .before .before .before .before in
+    arms.sum-written (walk-start t s .args .back) (walk-signed t s) (sym (c .before .before .before .before .before .before .before .before .enum-told5 .given .1) ∙ s .sign-of .ensures) (c .before .before .before .before .before .before .number2 .ensures) (c .before .before .letter .ensures)
+
+walk-same-length-7 : (t : ℕ) → walk-lts.Need-same-length-7 (walk-calls t) (walk-at t) walk.Post
+walk-same-length-7 t c =
+    let s = c .before .before .before .before .before .before .before .before .before .before in
+    c .before .before .walk3 .kept .1 .1 .1 .1 .0 ∙ c .before .before .before .before .before .before .letter2 .kept .1 .1 .0 ∙ walk-put t s .put .kept .0
+
+walk-returns-7 : (t : ℕ) → walk-lts.Need-returns-7 (walk-calls t) (walk-at t) walk.Post
+walk-returns-7 t c =
+    let s = c .before .before .before .before .before .before .before .before .before .before in
+    arms.pick-written (walk-start t s .args .back) (walk-signed t s) (sym (c .before .before .before .before .before .before .before .before .enum-told6 .given .1) ∙ s .sign-of .ensures) (c .before .before .before .before .before .before .letter2 .ensures) (c .before .before .walk3 .ensures)
+
+walk-same-length-8 : (t : ℕ) → walk-lts.Need-same-length-8 (walk-calls t) (walk-at t) walk.Post
+walk-same-length-8 t c =
+    let first = c .before .before .before .before .before .before in
+    let s = first .before .before .before .before .before in
+    c .before .before .walk5 .kept .1 .1 .1 .1 .0 ∙ first .walk4 .kept .1 .1 .1 .1 .0 ∙ walk-put t s .put .kept .0
+
+walk-returns-8 : (t : ℕ) → walk-lts.Need-returns-8 (walk-calls t) (walk-at t) walk.Post
+walk-returns-8 t c =
     let second = c .before .before in
     let first = second .before .before .before .before in
     let o = first .before .before in
     let s = walk-order t o in
-    arms.two-written (walk-start t s .args .back) (walk-signed t s) (walk-here t (walk-start t s) .marked .table) (o .order .result) (walk-ordered t o) (first .walk3 .ensures) (second .walk4 .ensures) (walk-last t (o .before .before))
+    arms.two-written (walk-start t s .args .back) (walk-signed t s) (walk-here t (walk-start t s) .marked .table) (o .order .result) (walk-ordered t o) (first .walk4 .ensures) (second .walk5 .ensures) (walk-last t (o .before .before))
 
 pub +test+walk-spec : {M : Type 1} → statement M
 +test+walk-spec =
@@ -440,9 +553,17 @@ pub +test+walk-spec : {M : Type 1} → statement M
     (test-second-requires t)
     (test-test-requires-2 t)
     (test-test-requires-3 t)
+    (test-enum-told-5 t)
+    (test-number-requires-2 t)
+    (test-add-letter t)
+    (test-letter-requires t)
+    (test-enum-told-6 t)
+    (test-letter-requires-2 t)
+    (test-add-test t)
+    (test-test-requires-4 t)
     (test-second-requires-2 t)
     (test-walk-requires t)
-    (test-test-requires-4 t)
+    (test-test-requires-5 t)
     (test-same-length t)
     (test-returns t)
     (test-same-length-2 t)
@@ -452,7 +573,11 @@ pub +test+walk-spec : {M : Type 1} → statement M
     (test-same-length-4 t)
     (test-returns-4 t)
     (test-same-length-5 t)
-    (test-returns-5 t))
+    (test-returns-5 t)
+    (test-same-length-6 t)
+    (test-returns-6 t)
+    (test-same-length-7 t)
+    (test-returns-7 t))
     (λ t. walk-lts.spec (walk-calls t) (walk-at t) walk.Post
     (walk-shared-slice-read-sign t)
     (walk-add-from t)
@@ -470,10 +595,18 @@ pub +test+walk-spec : {M : Type 1} → statement M
     (walk-walk-requires-2 t)
     (walk-enum-told-4 t)
     (walk-test-requires t)
+    (walk-enum-told-5 t)
+    (walk-number-requires-2 t)
+    (walk-add-letter t)
+    (walk-letter-requires t)
+    (walk-enum-told-6 t)
+    (walk-letter-requires-2 t)
+    (walk-add-walk t)
+    (walk-walk-requires-3 t)
     (walk-second-requires t)
     (walk-order-requires t)
-    (walk-walk-requires-3 t)
     (walk-walk-requires-4 t)
+    (walk-walk-requires-5 t)
     (walk-same-length-2 t)
     (walk-returns-2 t)
     (walk-same-length-3 t)
@@ -483,4 +616,8 @@ pub +test+walk-spec : {M : Type 1} → statement M
     (walk-same-length-5 t)
     (walk-returns-5 t)
     (walk-same-length-6 t)
-    (walk-returns-6 t))
+    (walk-returns-6 t)
+    (walk-same-length-7 t)
+    (walk-returns-7 t)
+    (walk-same-length-8 t)
+    (walk-returns-8 t))

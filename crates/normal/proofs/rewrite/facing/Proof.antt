@@ -20,12 +20,19 @@ returns-4 : tie.Need-returns-4
 returns-4 c = sym (ap₂ facingSign (c .before .if1 .taken) (c .match .keys4))
 
 returns-5 : tie.Need-returns-5
-returns-5 c =
-    let n = c .match .rest in
-    sym (ap (λ (k : Bool). facingSign k (c .before .before .args .sign)) (c .before .if1 .taken) ∙ turned-other (c .before .before .args .sign) (n .0 .0 .0 .1) (n .0 .0 .1) (n .0 .1) (n .1))
+returns-5 c = sym (ap₂ facingSign (c .before .if1 .taken) (c .match .keys5))
 
 returns-6 : tie.Need-returns-6
-returns-6 c = search needs
+returns-6 c = sym (ap₂ facingSign (c .before .if1 .taken) (c .match .keys6))
+
+returns-7 : tie.Need-returns-7
+returns-7 c =
+    let ((((((start, a), r), n), u), b), s) = c .match .rest in
+    let sign = c .before .before .args .sign in
+    sym (ap (λ (k : Bool). facingSign k sign) (c .before .if1 .taken) ∙ turned-other sign a r n u b s)
+
+returns-8 : tie.Need-returns-8
+returns-8 c = search needs
 
 pub facing-spec : {M : Type 1} → statement M
-facing-spec = tie.close (tie.spec returns returns-2 returns-3 returns-4 returns-5 returns-6)
+facing-spec = tie.close (tie.spec returns returns-2 returns-3 returns-4 returns-5 returns-6 returns-7 returns-8)

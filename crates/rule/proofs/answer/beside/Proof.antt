@@ -32,14 +32,18 @@ larger-requires-3 c κs = search needs
 either-requires : tie.Need-either-requires
 either-requires c κs = search needs
 
+either-requires-2 : tie.Need-either-requires-2
+either-requires-2 c κs = search needs
+
 returns : tie.Need-returns
 returns c = search needs
 
 returns-2 : tie.Need-returns-2
 returns-2 c =
-    let sum = c .before .before .before in
+    let marked = c .before .before .before in
+    let sum = marked .before .before .before in
     rw (sum .before .before .second .given .1)
-    (rw (sum .larger .ensures, c .before .before .larger2 .ensures, c .before .larger3 .ensures, c .either .ensures) refl)
+    (rw (sum .larger .ensures, marked .before .before .larger2 .ensures, marked .before .larger3 .ensures, marked .either .ensures, c .either2 .ensures) refl)
 
 pub beside-spec : {M : Type 1} → statement M
 beside-spec =
@@ -52,5 +56,6 @@ beside-spec =
     larger-requires-2
     larger-requires-3
     either-requires
+    either-requires-2
     returns
     returns-2)

@@ -14,20 +14,23 @@ enum-told c = search needs
 enum-known-name : tie.Need-enum-known-name
 enum-known-name c = search needs
 
-cast-t5 : tie.Need-cast-t5
-cast-t5 c = omega (arith, number-named (c .before .before .before .args .end) (c .before .name .given .1) (c .before .before .before .pre) .1)
+cast-end : tie.Need-cast-end
+cast-end c = omega (arith, number-named (c .before .before .before .args .more) (c .before .before .before .args .end) (c .before .name .given .1) (c .before .before .before .pre))
 
-cast-t6 : tie.Need-cast-t6
-cast-t6 c = omega (arith, number-named (c .before .before .before .args .end) (c .before .name .given .1) (c .before .before .before .pre) .0)
+cast-number : tie.Need-cast-number
+cast-number c = omega (arith, number-named (c .before .before .before .args .more) (c .before .before .before .args .end) (c .before .name .given .1) (c .before .before .before .pre))
 
-add-t7 : tie.Need-add-t7
-add-t7 c = omega (arith, number-named (c .before .before .before .args .end) (c .before .name .given .1) (c .before .before .before .pre) .0)
+cast-room : tie.Need-cast-room
+cast-room c = omega (arith, number-named (c .before .before .before .args .more) (c .before .before .before .args .end) (c .before .name .given .1) (c .before .before .before .pre))
+
+add-fluents : tie.Need-add-fluents
+add-fluents c = omega (arith, number-named (c .before .before .before .args .more) (c .before .before .before .args .end) (c .before .name .given .1) (c .before .before .before .pre))
 
 returns : tie.Need-returns
 returns c = search needs
 
 returns-2 : tie.Need-returns-2
-returns-2 c = ap (λ (n : Digits). fluentOf n (c .before .before .before .args .end)) (sym (c .before .name .given .1))
+returns-2 c = let a = c .before .before .before .args in ap (λ (n : Digits). fluentOf n (a .more) (a .end)) (sym (c .before .name .given .1))
 
 pub fluent-spec : {M : Type 1} → statement M
-fluent-spec = tie.close (tie.spec enum-told enum-known-name cast-t5 cast-t6 add-t7 returns returns-2)
+fluent-spec = tie.close (tie.spec enum-told enum-known-name cast-end cast-number cast-room add-fluents returns returns-2)

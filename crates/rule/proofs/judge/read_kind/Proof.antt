@@ -27,13 +27,13 @@ read-walk-requires-2 : tie.Need-read-walk-requires-2
 read-walk-requires-2 c κs = search needs
 
 returns : tie.Need-returns
-returns c = subst⁻¹ (λ (k : Kind). ReadAt (kindOf k) (c .before .before .before .before .args .text .now) 0 (c .read-test .result)) (c .before .enum-told .given .1) (c .read-test .ensures)
+returns c = subst⁻¹ (λ (k : Kind). ReadAt (kindOf k) (c .before .before .before .before .args .domain) (c .before .before .before .before .args .text .now) 0 (c .read-test .result)) (c .before .enum-told .given .1) (c .read-test .ensures)
 
 returns-2 : tie.Need-returns-2
-returns-2 c = subst⁻¹ (λ (k : Kind). ReadAt (kindOf k) (c .before .before .before .before .args .text .now) 0 (c .read-walk .result)) (c .before .enum-told2 .given .1) (c .read-walk .ensures)
+returns-2 c = subst⁻¹ (λ (k : Kind). ReadAt (kindOf k) (c .before .before .before .before .args .domain) (c .before .before .before .before .args .text .now) 0 (c .read-walk .result)) (c .before .enum-told2 .given .1) (c .read-walk .ensures)
 
 returns-3 : tie.Need-returns-3
-returns-3 c = subst⁻¹ (λ (k : Kind). ReadAt (kindOf k) (c .before .before .before .before .args .text .now) 0 (c .read-walk2 .result)) (c .before .enum-told3 .given .1) (job-read (c .before .before .before .before .args .text .now) 0 (c .read-walk2 .result) (c .read-walk2 .ensures))
+returns-3 c = subst⁻¹ (λ (k : Kind). ReadAt (kindOf k) (c .before .before .before .before .args .domain) (c .before .before .before .before .args .text .now) 0 (c .read-walk2 .result)) (c .before .enum-told3 .given .1) (job-read (c .before .before .before .before .args .domain) (c .before .before .before .before .args .text .now) 0 (c .read-walk2 .result) (c .read-walk2 .ensures))
 
 pub read-kind-spec : {M : Type 1} → statement M
 read-kind-spec =

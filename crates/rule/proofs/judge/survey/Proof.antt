@@ -1,7 +1,11 @@
 -- `judge::survey` meets its contract, by the laws of `Outcomes`.
 use mathlib.Core.Path.{subst}
+use mathlib.Core.Logic.{inr}
+use Prim.Native.Nat.{_<_}
+use native.Mathlib.Omega.{arith}
 use borrow.Author.Needs.{needs}
 use Rattle.laws.proofs.Truth.{off-on}
+use Rattle.meaning.specs.Limits.{domainLimit}
 use Rattle.theory.specs.Rows.{CountsOut}
 use Rattle.rule.specs.Outcome.{kindOf}
 use Rattle.rule.specs.Judged.{OpenedAs}
@@ -25,7 +29,9 @@ returns c =
     laws.counts-refused (a .whole) (kindOf (a .kind)) (a .text .now) (a .counts) (c .before .bad-counts .ensures .0 (c .if1 .taken))
 
 opening-requires : tie.Need-opening-requires
-opening-requires c κs = search needs
+opening-requires c κs =
+    let few : ¬ (domainLimit < start c .args .counts .domain) = λ h. good c (inr h) in
+    omega arith
 
 enum-told : tie.Need-enum-told
 enum-told c = search needs
@@ -42,7 +48,7 @@ returns-2 c =
     let p = opened .before in
     let a = start p .args in
     laws.rule-refused (a .whole) (kindOf (a .kind)) (a .text .now) (a .counts) (good p)
-    (subst (OpenedAs (a .whole) (kindOf (a .kind)) (a .text .now)) (c .enum-told .given .1) (opened .opening .ensures))
+    (subst (OpenedAs (a .whole) (kindOf (a .kind)) (a .counts .domain) (a .text .now)) (c .enum-told .given .1) (opened .opening .ensures))
 
 returns-3 : tie.Need-returns-3
 returns-3 c =
@@ -51,7 +57,7 @@ returns-3 c =
     let p = opened .before in
     let a = start p .args in
     laws.facts-judged (a .whole) (kindOf (a .kind)) (a .text .now) (a .counts) (found .f .given .0 .0) (c .judge .result) (good p)
-    (subst (OpenedAs (a .whole) (kindOf (a .kind)) (a .text .now)) (found .f .given .1) (opened .opening .ensures)) (c .judge .ensures)
+    (subst (OpenedAs (a .whole) (kindOf (a .kind)) (a .counts .domain) (a .text .now)) (found .f .given .1) (opened .opening .ensures)) (c .judge .ensures)
 
 pub survey-spec : {M : Type 1} → statement M
 survey-spec =

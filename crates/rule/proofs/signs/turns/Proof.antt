@@ -13,10 +13,14 @@ returns c =
 
 returns-2 : tie.Need-returns-2
 unfolding turnsBack
-returns-2 c =
+returns-2 c = ap turnsBack (sym (c .match .keys2))
+
+returns-3 : tie.Need-returns-3
+unfolding turnsBack
+returns-3 c =
     let b = c .before .args .byte in
-    let none = c .match .rest .1 in
-    simp (ne-eqb b 45 (λ e. none (inl e)), ne-eqb b 114 (λ e. none (inr (inl e))), ne-eqb b 117 (λ e. none (inr (inr e))))
+    let ((start, none), s115) = c .match .rest in
+    simp (ne-eqb b 45 (λ e. none (inl e)), ne-eqb b 114 (λ e. none (inr (inl e))), ne-eqb b 117 (λ e. none (inr (inr e))), ne-eqb b 115 s115)
 
 pub turns-spec : {M : Type 1} → statement M
-turns-spec = tie.close (tie.spec returns returns-2)
+turns-spec = tie.close (tie.spec returns returns-2 returns-3)

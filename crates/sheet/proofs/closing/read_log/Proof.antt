@@ -7,7 +7,7 @@ use borrow.Author.Needs.{needs}
 use lib.ListN.{take}
 use Rattle.theory.specs.Subject.{countsOf}
 use Rattle.sheet.specs.Forms.{logForm}
-use Rattle.sheet.specs.Lines.{none, opened, withLog, fromAsk}
+use Rattle.sheet.specs.Lines.{withLog, fromAsk}
 use Rattle.sheet.specs.Found.{Accepts, LineRead}
 use Rattle.sheet.specs.Log.{LogKept}
 use Rattle.sheet.specs.declared.Cursor.{Cursor}
@@ -69,7 +69,7 @@ read-ask-requires c κs =
     let k = c .before in
     let s = entry (called k) in
     let a = s .args in (
-      below-line (logForm (a .version) (a .said .setting .counts .actions)) (a .sheet .now) (a .above .end + 1) (a .above .line + 1) (λ log at. none (opened (a .said .setting) log))
+      below-line (logForm (a .version) (a .said .setting .counts .actions)) (a .sheet .now) (a .above .end + 1) (a .above .line + 1)
           (take (it k .number) (exit (called k))) (it k) (read k) (omega (arith, s .pre .0 .early)),
       s .pre .2,
     )

@@ -5,23 +5,17 @@ use native.Mathlib.Omega.{arith}
 use borrow.Author.Needs.{needs}
 use Rattle.sheet.specs.Forms.{moreForm}
 use Rattle.sheet.specs.Lines.{none, withMore}
-use Rattle.sheet.specs.Found.{Accepts, LineRead}
-use Rattle.sheet.proofs.Order.{past-line, at-line, bytes-follow}
+use Rattle.sheet.specs.Found.{Accepts, Below, ReadBelow}
+use Rattle.sheet.proofs.Order.{past-cursor, at-line, bytes-follow}
 use Rattle.sheet.proofs.Last.{more-read}
 use Rattle.sheet.proofs.closing.read_more.Statement.{statement}
 use Rattle.sheet.proofs.closing.read_more.Tie as tie
 
-add-at : tie.Need-add-at
-add-at c = search needs
+slice-aggregate-number-below : tie.Need-slice-aggregate-number-below
+slice-aggregate-number-below c = search needs
 
-add-line : tie.Need-add-line
-add-line c = search needs
-
-slice-aggregate-number-line : tie.Need-slice-aggregate-number-line
-slice-aggregate-number-line c = search needs
-
-number-line-requires : tie.Need-number-line-requires
-number-line-requires c κs = search needs
+number-below-requires : tie.Need-number-below-requires
+number-below-requires c κs = search needs
 
 enum-known-f : tie.Need-enum-known-f
 enum-known-f c = c .match .keys1
@@ -31,29 +25,28 @@ enum-known-c c = c .match .keys2
 
 -- the last line
 abbrev entry : tie.After-known-told2 → tie.Start
-entry k = let called = k .before .before .before in called .before .before .before .before .before
+entry k = let called = k .before .before .before in called .before .before .before
 
 read : (k : tie.After-known-told2) → let a = entry k .args in let c = k .before .c .given .0 .0 in
-    Accepts moreForm (a .sheet .now) (a .above .end + 1) (a .above .line + 1) (c .number) c
+    Accepts moreForm (a .sheet .now) (a .above .end + 1) (a .above .line + 1) (c .number) c × Below (a .sheet .now) c
 read k =
     let a = entry k .args in
-    subst (LineRead moreForm (a .sheet .now) (a .above .end + 1) (a .above .line + 1) (λ c. c .number)) (k .before .c .given .1)
-    (k .before .before .before .number-line .ensures)
+    subst (ReadBelow moreForm (a .sheet .now) (a .above) (λ c. c .number)) (k .before .c .given .1) (k .before .before .before .number-below .ensures)
 
 add-end : tie.Need-add-end
-add-end c = omega (arith, read (c .before) .stands .within)
+add-end c = omega (arith, read (c .before) .1 .within)
 
 add-below : tie.Need-add-below
-add-below c = search needs
+add-below c = let below = read (c .before .before) .1 in omega (arith, below .within, below .early)
 
 returns : tie.Need-returns
 returns c =
-    let k = c .before .before in
+    let k = c .before .before .before in
     let a = entry k .args in
     let it = k .before .c .given .0 .0 in
     λ s e.
-    past-line moreForm (a .sheet .now) (a .above .end + 1) (a .above .line + 1) (λ more at. none (withMore s more)) (it .number) it (read k) .faults _ _
-    (bytes-follow (a .sheet .now) (it .end + 1) (a .above .line + 1 + 1) (withMore s (it .number)) (c .if1 .taken))
+    past-cursor moreForm (a .sheet .now) (a .above .end + 1) (a .above .line + 1) (λ more at. none (withMore s more)) (it .number) it (read k .0) .faults _ _
+    (bytes-follow (a .sheet .now) (it .end + 1) (it .line + 1) (withMore s (it .number)) (c .if1 .taken))
 
 cast-said : tie.Need-cast-said
 cast-said c = search needs
@@ -61,26 +54,24 @@ cast-said c = search needs
 returns-2 : tie.Need-returns-2
 returns-2 c =
     let called = c .before .before .before in
-    let a = called .before .before .before .before .before .args in
+    let a = called .before .before .before .args in
     λ s e.
     at-line moreForm (a .sheet .now) (a .above .end + 1) (a .above .line + 1) (λ more at. none (withMore s more))
-    (subst (LineRead moreForm (a .sheet .now) (a .above .end + 1) (a .above .line + 1) (λ c. c .number)) (c .before .f .given .1) (called .number-line .ensures))
+    (subst (ReadBelow moreForm (a .sheet .now) (a .above) (λ c. c .number)) (c .before .f .given .1) (called .number-below .ensures))
 
 returns-3 : tie.Need-returns-3
 returns-3 c =
     let tested = c .before in
-    let k = tested .before .before in
+    let k = tested .before .before .before in
     let a = entry k .args in
-    λ s e. more-read (a .sheet .now) (a .above .end + 1) (a .above .line + 1) (a .said) (k .before .c .given .0 .0) s e (read k) (tested .if1 .left)
+    λ s e. more-read (a .sheet .now) (a .above .end + 1) (a .above .line + 1) (a .said) (k .before .c .given .0 .0) s e (read k .0) (tested .if1 .left)
 
 pub read-more-spec : {M : Type 1} → statement M
 read-more-spec =
     tie.close
     (tie.spec
-    add-at
-    add-line
-    slice-aggregate-number-line
-    number-line-requires
+    slice-aggregate-number-below
+    number-below-requires
     enum-known-f
     enum-known-c
     add-end

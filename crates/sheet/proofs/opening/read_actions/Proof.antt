@@ -1,27 +1,20 @@
 -- `sheet::opening::read_actions` meets its contract: its line leads on to the next, and a refused one is the fault. Assumes nothing.
 use mathlib.Core.Path.{subst}
 use Prim.Native.Nat.{ℕ, _+_}
-use native.Mathlib.Omega.{arith}
 use borrow.Author.Needs.{needs}
 use Rattle.sheet.specs.Forms.{actionsForm}
-use Rattle.sheet.specs.Lines.{Lines, fromStart}
-use Rattle.sheet.specs.Found.{Accepts, LineRead}
-use Rattle.sheet.proofs.Order.{past-cursor, below-line, at-line}
+use Rattle.sheet.specs.Lines.{Lines, fromDomain}
+use Rattle.sheet.specs.Found.{Accepts, Below, ReadBelow}
+use Rattle.sheet.proofs.Order.{past-cursor, at-line}
 use Rattle.sheet.proofs.Whole.{head-found}
 use Rattle.sheet.proofs.opening.read_actions.Statement.{statement}
 use Rattle.sheet.proofs.opening.read_actions.Tie as tie
 
-add-at : tie.Need-add-at
-add-at c = search needs
+slice-aggregate-number-below : tie.Need-slice-aggregate-number-below
+slice-aggregate-number-below c = search needs
 
-add-line : tie.Need-add-line
-add-line c = search needs
-
-slice-aggregate-number-line : tie.Need-slice-aggregate-number-line
-slice-aggregate-number-line c = search needs
-
-number-line-requires : tie.Need-number-line-requires
-number-line-requires c κs = search needs
+number-below-requires : tie.Need-number-below-requires
+number-below-requires c κs = search needs
 
 enum-known-f : tie.Need-enum-known-f
 enum-known-f c = c .match .keys1
@@ -34,36 +27,30 @@ cast-actions c = search needs
 
 -- the line that was read, and the lines below it
 abbrev entry : tie.After-known-told2 → tie.Start
-entry k = let called = k .before .before .before in called .before .before .before .before .before
+entry k = let called = k .before .before .before in called .before .before .before
 
 abbrev below : tie.Start → ℕ → ℕ → Lines
-below s said at = fromStart (s .args .version) (record { fluents = s .args .fluents; actions = said })
+below s said at = fromDomain (s .args .version) (s .args .fluents) said
 
 read : (k : tie.After-known-told2) → let a = entry k .args in let c = k .before .c .given .0 .0 in
-    Accepts actionsForm (a .sheet .now) (a .above .end + 1) (a .above .line + 1) (c .number) c
+    Accepts actionsForm (a .sheet .now) (a .above .end + 1) (a .above .line + 1) (c .number) c × Below (a .sheet .now) c
 read k =
     let a = entry k .args in
-    subst (LineRead actionsForm (a .sheet .now) (a .above .end + 1) (a .above .line + 1) (λ c. c .number)) (k .before .c .given .1)
-    (k .before .before .before .number-line .ensures)
+    subst (ReadBelow actionsForm (a .sheet .now) (a .above) (λ c. c .number)) (k .before .c .given .1) (k .before .before .before .number-below .ensures)
 
-read-start-requires : tie.Need-read-start-requires
-read-start-requires c κs =
+read-domain-requires : tie.Need-read-domain-requires
+read-domain-requires c κs =
     let k = c .before in
     let s = entry k in
-    let a = s .args in
-    let it = k .before .c .given .0 .0 in (
-      below-line actionsForm (a .sheet .now) (a .above .end + 1) (a .above .line + 1) (below s) (it .number) it (read k) (omega (arith, s .pre .0 .early)),
-      s .pre .1,
-      record { fewFluents = s .pre .2; someActions = read k .says .inRange .0; fewActions = read k .says .inRange .1 },
-    )
+    (read k .1, s .pre .1, s .pre .2, read k .0 .says .inRange .0, read k .0 .says .inRange .1)
 
 returns : tie.Need-returns
 returns c =
     let called = c .before .before .before in
-    let s = called .before .before .before .before .before in
+    let s = called .before .before .before in
     let a = s .args in
     at-line actionsForm (a .sheet .now) (a .above .end + 1) (a .above .line + 1) (below s)
-    (subst (LineRead actionsForm (a .sheet .now) (a .above .end + 1) (a .above .line + 1) (λ c. c .number)) (c .before .f .given .1) (called .number-line .ensures))
+    (subst (ReadBelow actionsForm (a .sheet .now) (a .above) (λ c. c .number)) (c .before .f .given .1) (called .number-below .ensures))
 
 returns-2 : tie.Need-returns-2
 returns-2 c =
@@ -71,19 +58,17 @@ returns-2 c =
     let s = entry k in
     let a = s .args in
     let it = k .before .c .given .0 .0 in
-    head-found (past-cursor actionsForm (a .sheet .now) (a .above .end + 1) (a .above .line + 1) (below s) (it .number) it (read k)) (c .read-start .result) (c .read-start .ensures)
+    head-found (past-cursor actionsForm (a .sheet .now) (a .above .end + 1) (a .above .line + 1) (below s) (it .number) it (read k .0)) (c .read-domain .result) (c .read-domain .ensures)
 
 pub read-actions-spec : {M : Type 1} → statement M
 read-actions-spec =
     tie.close
     (tie.spec
-    add-at
-    add-line
-    slice-aggregate-number-line
-    number-line-requires
+    slice-aggregate-number-below
+    number-below-requires
     enum-known-f
     enum-known-c
     cast-actions
-    read-start-requires
+    read-domain-requires
     returns
     returns-2)

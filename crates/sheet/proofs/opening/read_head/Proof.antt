@@ -9,7 +9,8 @@ use Rattle.sheet.specs.Lines.{Lines, fromFluents}
 use Rattle.sheet.specs.Found.{Accepts, LineRead}
 use Rattle.sheet.specs.Sections.{HeadFound}
 use Rattle.sheet.proofs.Order.{past-cursor, below-line, at-line}
-use Rattle.sheet.proofs.Whole.{usable, head-found}
+use Rattle.sheet.proofs.VersionRows.{usable}
+use Rattle.sheet.proofs.Whole.{head-found}
 use Rattle.sheet.proofs.opening.read_head.Statement.{statement}
 use Rattle.sheet.proofs.opening.read_head.Tie as tie
 
@@ -43,7 +44,7 @@ read-fluents-requires : tie.Need-read-fluents-requires
 read-fluents-requires c κs =
     let k = c .before in
     let it = k .before .c .given .0 .0 in (
-      below-line versionForm (entry k .args .sheet .now) 0 1 below (it .number) it (read k) (omega arith),
+      below-line versionForm (entry k .args .sheet .now) 0 1 (it .number) it (read k) (omega arith),
       subst Usable (sym (c .version-of .ensures)) (usable (it .number)),
     )
 

@@ -32,7 +32,7 @@ form s = startForm (s .args .counts .fluents)
 
 -- the lines below it
 abbrev below : tie.Start → ℕ → ℕ → Lines
-below s start at = fromActs (s .args .version) (settingOf (s .args .counts .fluents) (s .args .counts .actions) start)
+below s start at = fromActs (s .args .version) (settingOf (s .args .counts .fluents) (s .args .counts .actions) (s .args .counts .domain) start)
 
 returns : tie.Need-returns
 returns c =
@@ -54,7 +54,7 @@ returns-2 c =
     record {
       usable = s .pre .1;
       ranged = s .pre .2;
-      below = below-line (form s) (a .sheet .now) at line (below s) (last .number) last read (omega (arith, s .pre .0 .early));
+      below = below-line (form s) (a .sheet .now) at line (last .number) last read (omega (arith, s .pre .0 .early));
       onward = past-cursor (form s) (a .sheet .now) at line (below s) (last .number) last read;
     }
 

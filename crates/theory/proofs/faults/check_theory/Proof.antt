@@ -21,14 +21,14 @@ good : (c : tie.Else1) → CountsOut (c .before .before .before .before .args .s
 good c h = off-on (c .if1 .left) (c .before .bad-counts .ensures .1 h)
 
 mul-if2 : tie.Need-mul-if2
-mul-if2 c = let few : ¬ (actionLimit < c .before .before .before .before .args .s .counts .actions) = λ h. good c (inr (inr h)) in omega arith
+mul-if2 c = let few : ¬ (actionLimit < c .before .before .before .before .args .s .counts .actions) = λ h. good c (inl (inr (inr h))) in omega arith
 
 returns-2 : tie.Need-returns-2
 returns-2 c = here (inr (λ e. omega arith))
 
 bad-masks-requires : tie.Need-bad-masks-requires
 bad-masks-requires c κs =
-    let few : ¬ (fluentLimit < c .before .before .before .before .before .args .s .counts .fluents) = λ h. good (c .before) (inl h) in omega arith
+    let few : ¬ (fluentLimit < c .before .before .before .before .before .args .s .counts .fluents) = λ h. good (c .before) (inl (inl h)) in omega arith
 
 returns-3 : tie.Need-returns-3
 returns-3 c =
