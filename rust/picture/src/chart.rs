@@ -1,5 +1,5 @@
 //! The log as a drawing: its positions and steps in a row, and below it the state, the verdict and each fluent's lane. Missing steps follow behind the log's end, dashed.
-use crate::columns::{Columns, LABEL};
+use crate::columns::{Columns, BESIDE, LABEL};
 use crate::facts::{yes_no, Facts};
 use crate::names::Names;
 use crate::places::Places;
@@ -19,9 +19,6 @@ const LINES: usize = 3;
 const ABOVE: usize = 16;
 const LANE: usize = 18;
 const CLOSE_LANE: usize = 13;
-/// How many letters fit beside a lane.
-const BESIDE: usize = 24;
-
 /// The drawing of the log, with the columns that it stands in.
 pub struct Chart<'a> {
     facts: &'a Facts,

@@ -3,6 +3,8 @@
 /// How wide a drawing is, and how much of it is kept for what stands beside its lanes.
 pub const WIDTH: usize = 960;
 pub const LABEL: usize = 150;
+/// How many letters fit there.
+pub const BESIDE: usize = 24;
 
 /// The least pitch of the columns of a rule's answers, and the least in which every position is numbered.
 const NARROW: usize = 12;

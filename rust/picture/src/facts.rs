@@ -1,8 +1,9 @@
 //! Everything that a picture shows of an accepted sheet, asked of the library.
+use crate::asked::Asker;
 use crate::places::Places;
 use crate::progress::Progress;
 use crate::standing::Standing;
-use crate::tree::{Asker, Node};
+use crate::tree::Node;
 use wyndhopper::{Job, Kind, Refusal, Sheet};
 
 /// A step of the log: its action, and whether it was possible where it stands. If it was not, it was forced.
@@ -17,6 +18,8 @@ pub struct Step {
 pub struct Facts {
     pub fluents: usize,
     pub actions: usize,
+    /// How many values a variable has; 0 in a sheet without variables.
+    pub domain: usize,
     /// The log's end: its length.
     pub end: usize,
     pub steps: Vec<Step>,
@@ -54,6 +57,7 @@ impl Facts {
         Ok(Facts {
             fluents: job.fluents(),
             actions: job.actions(),
+            domain: job.domain(),
             end,
             steps,
             states,

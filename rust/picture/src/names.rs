@@ -51,6 +51,14 @@ impl Names {
         self.fluents.get(&number).cloned().unwrap_or_else(|| format!("fluent {number:02} is on"))
     }
 
+    /// That the fluent a variable's value behind this one is on.
+    pub fn fluent_plus(&self, number: usize, variable: char) -> String {
+        match self.fluents.get(&number) {
+            Some(words) => format!("{words} + {variable}"),
+            None => format!("fluent {number:02} + {variable} is on"),
+        }
+    }
+
     /// An action on its step: its words, or its number alone.
     pub fn step(&self, number: usize) -> String {
         self.actions.get(&number).cloned().unwrap_or_else(|| format!("{number:02}"))

@@ -97,8 +97,11 @@ fn tree(rule: &Node, facts: &Facts, names: &Names, columns: Columns) -> String {
     let mut parts = ruler(columns);
     parts.push_str("<ol class=\"tree\">\n");
     rule.each(0, &mut |node, depth| {
-        let told = node.rows.first().filter(|_| node.rows.len() == 1).map(|row| words::answered(node, row, facts.end));
-        let told = told.unwrap_or_else(|| if node.rows.is_empty() { "not asked".to_string() } else { String::new() });
+        let told = match &node.groups()[..] {
+            [] => "not asked".to_string(),
+            [group] => words::answered(node, group.row, facts.end),
+            _ => String::new(),
+        };
         let more: Vec<String> = [words::from_end(node, facts.end), words::left_out(node)].into_iter().flatten().collect();
         parts.push_str(&format!(
             "<li style=\"--depth:{depth}\"><p><span class=\"words\">{}</span> <code title=\"{}\">{}</code>{}{}</p>{}{}</li>\n",

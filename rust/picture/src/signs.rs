@@ -8,6 +8,11 @@ pub enum Own {
     Nothing,
     Action,
     Fluent,
+    /// A number and a variable; with a value written in it is this sign with the sum.
+    ActionPlus(u8),
+    FluentPlus(u8),
+    /// The variable that it binds in its part.
+    Variable,
 }
 
 impl Own {
@@ -16,6 +21,8 @@ impl Own {
         match self {
             Own::Nothing => 0,
             Own::Action | Own::Fluent => 2,
+            Own::ActionPlus(_) | Own::FluentPlus(_) => 3,
+            Own::Variable => 1,
         }
     }
 }
@@ -31,6 +38,8 @@ pub enum At {
     Rounds,
     /// Where the sign is, and the log is seen up to there only.
     UpToHere,
+    /// Where the sign itself is, with each value of its variable.
+    EachValue,
 }
 
 /// A part: its kind, the word that leads it in, and where it is asked.
@@ -73,7 +82,7 @@ const fn sign(byte: u8, kind: Kind, own: Own, words: &'static str, behind: Behin
     Sign { byte, kind, own, words, behind }
 }
 
-pub const SIGNS: [Sign; 14] = [
+pub const SIGNS: [Sign; 19] = [
     sign(b'a', Kind::Walk, Own::Action, "one step on: {}", LEAF),
     sign(b'r', Kind::Walk, Own::Action, "one step back: {}", LEAF),
     sign(b'n', Kind::Walk, Own::Nothing, "one step on, any that was possible", LEAF),
@@ -83,11 +92,16 @@ pub const SIGNS: [Sign; 14] = [
     sign(b'*', Kind::Walk, Own::Nothing, "any number of times, or none", Behind::Parts(&[walk("", At::Rounds)])),
     sign(b'?', Kind::Walk, Own::Nothing, "stay here, if", Behind::Parts(&[test("", At::UpToHere)])),
     sign(b'-', Kind::Walk, Own::Nothing, "backwards, that is", Behind::Turned),
+    sign(b'p', Kind::Walk, Own::Variable, "with some value of {}", Behind::Parts(&[walk("", At::EachValue)])),
+    sign(b'b', Kind::Walk, Own::ActionPlus(b'a'), "one step on: {}", LEAF),
+    sign(b's', Kind::Walk, Own::ActionPlus(b'r'), "one step back: {}", LEAF),
     sign(b'1', Kind::Test, Own::Nothing, "always", LEAF),
     sign(b'f', Kind::Test, Own::Fluent, "{}", LEAF),
     sign(b'!', Kind::Test, Own::Nothing, "not", Behind::Parts(&[test("", At::Here)])),
     sign(b'&', Kind::Test, Own::Nothing, "both", Behind::Parts(&[test("", At::Here), test("and", At::Here)])),
     sign(b'<', Kind::Test, Own::Nothing, "there is a place", Behind::Parts(&[walk("reached by", At::Here), test("where", At::Behind)])),
+    sign(b'e', Kind::Test, Own::Variable, "with some value of {}", Behind::Parts(&[test("", At::EachValue)])),
+    sign(b'g', Kind::Test, Own::FluentPlus(b'f'), "{}", LEAF),
 ];
 
 /// The row of the sign that opens this text.

@@ -12,8 +12,8 @@ pub struct Standing {
     pub follows: usize,
     /// The job has come to its end at the log's end.
     pub ended: bool,
-    /// The step signs that the job waits with at `follows`, as their texts, each once.
-    pub waits: Vec<Node>,
+    /// The actions that the job waits for at `follows`, each once; none is any action.
+    pub waits: Vec<Option<usize>>,
     /// The actions that may come next at `follows`.
     pub next: Vec<usize>,
     /// What is missing, if at most *more* actions finish the job.
@@ -34,12 +34,13 @@ impl Standing {
         own_walk(run, &mut |node| {
             follows = follows.max(node.rows.iter().filter_map(|row| row.at.last().max(row.found.last())).max().copied().unwrap_or(0))
         });
-        let mut waits: Vec<Node> = Vec::new();
+        let mut waits: Vec<Option<usize>> = Vec::new();
         own_walk(run, &mut |node| {
-            node.waits = node.steps() && node.rows.iter().any(|row| row.at.contains(&follows));
-            if node.waits && waits.iter().all(|other| other.text != node.text) {
-                waits.push(node.clone());
-            }
+            let here = node.rows.iter().filter(|row| row.at.contains(&follows));
+            let actions: Vec<Option<usize>> = here.filter(|_| node.steps()).map(|row| node.named_with(&row.values)).collect();
+            node.waits = !actions.is_empty();
+            let new = actions.into_iter().filter(|action| !waits.contains(action)).collect::<std::collections::BTreeSet<_>>();
+            waits.extend(new);
         });
         let next = job.with_log(&job.log()[..follows]).next(sheet.run)?;
         let next = (0..job.actions()).filter(|action| next >> action & 1 == 1).collect();

@@ -1,8 +1,9 @@
 //! The answers about one part of a rule as a strip below its words: where a test is true, where a walk leads, and above it where it is asked or walked from.
-use crate::columns::{Columns, LABEL};
+use crate::asked::{Group, Row};
+use crate::columns::{Columns, BESIDE, LABEL};
 use crate::places::Places;
 use crate::svg::{bars, drawing, marks, path, squares, text};
-use crate::tree::{Node, Row};
+use crate::tree::Node;
 use crate::words;
 use wyndhopper::Kind;
 
@@ -15,16 +16,17 @@ const LANE: usize = 14;
 
 /// The strips of a part, one for each row of answers and each line of positions.
 pub fn strips(node: &Node, columns: Columns) -> String {
-    node.rows.iter().map(|row| row_strips(node, row, columns)).collect()
+    node.groups().iter().map(|group| group_strips(node, group, columns)).collect()
 }
 
-fn row_strips(node: &Node, row: &Row, columns: Columns) -> String {
-    let beside = match words::sees(node, row, columns.last) {
-        Some(sees) => sees,
+fn group_strips(node: &Node, group: &Group, columns: Columns) -> String {
+    let row = group.row;
+    let beside = match words::sees(node, group, columns.last) {
+        Some(sees) => words::cut(&sees, BESIDE),
         None if node.kind == Kind::Test => "true".to_string(),
         None => "leads to".to_string(),
     };
-    let told = words::row(node, row, columns.last);
+    let told = words::group(node, group, columns.last);
     let lines = columns.lines();
     let one = |&line: &(usize, usize)| {
         let label = if lines.len() > 1 { format!("{beside}, {}-{}", line.0, line.1) } else { beside.clone() };

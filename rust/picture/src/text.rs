@@ -89,7 +89,7 @@ fn rule(rule: &Node, facts: &Facts, names: &Names) -> Vec<String> {
 
 /// All that is told of a part.
 fn told(node: &Node, end: usize) -> Vec<String> {
-    let mut all: Vec<String> = node.rows.iter().map(|row| words::row(node, row, end)).collect();
+    let mut all: Vec<String> = node.groups().iter().map(|group| words::group(node, group, end)).collect();
     if all.is_empty() {
         all.push("not asked".to_string());
     }

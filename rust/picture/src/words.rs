@@ -1,10 +1,11 @@
 //! The sentences of a picture, the same on a page and on a terminal.
+use crate::asked::{Group, Now, Row};
 use crate::facts::{yes_no, Facts};
 use crate::fault::Refused;
 use crate::names::Names;
 use crate::places::{at, written, Places};
 use crate::signs::Own;
-use crate::tree::{Node, Now, Row};
+use crate::tree::{Node, Values};
 use wyndhopper::{Kind, FINISH_ROOM};
 
 /// If the verdict turned more often, its positions are counted and not named.
@@ -13,12 +14,19 @@ const MANY: usize = 8;
 /// If more actions are waited for that are not possible, they are counted and not named.
 const FEW: usize = 4;
 
+/// Of several variables at most so many choices of values are named.
+const CHOICES: usize = 6;
+
 /// What a part of a rule says, without its own parts.
 pub fn part(node: &Node, names: &Names) -> String {
     let Some(sign) = node.sign else { return "a sign that this program has no words for".to_string() };
+    let variable = node.variable().map_or(' ', char::from);
     let named = match (sign.own, node.named()) {
         (Own::Action, Some(action)) => names.action(action),
         (Own::Fluent, Some(fluent)) => names.fluent(fluent),
+        (Own::ActionPlus(_), Some(action)) => format!("{} + {variable}", names.action(action)),
+        (Own::FluentPlus(_), Some(fluent)) => names.fluent_plus(fluent, variable),
+        (Own::Variable, _) => variable.to_string(),
         _ => String::new(),
     };
     let words = sign.words.replace("{}", &named);
@@ -53,13 +61,30 @@ pub fn cut(text: &str, most: usize) -> String {
     }
 }
 
-/// How far a row sees, where that is not the log's end and matters.
-pub fn sees(node: &Node, row: &Row, end: usize) -> Option<String> {
-    match row.now {
-        Now::At(now) if now == end && node.rows.len() == 1 => None,
+/// With which values a group of rows is asked, and how far it sees, where that is not the log's end and matters.
+pub fn sees(node: &Node, group: &Group, end: usize) -> Option<String> {
+    let same = node.rows.iter().all(|row| row.now == Now::At(end));
+    let now = match group.row.now {
+        Now::At(_) if same => None,
         Now::At(now) => Some(format!("seen from {now}")),
         Now::Own => node.looks().then(|| "each seen from itself".to_string()),
-    }
+    };
+    let told: Vec<String> = [values(&group.values), now].into_iter().flatten().collect();
+    (!told.is_empty()).then(|| told.join(", "))
+}
+
+/// Values in writing: `v = 0-2`, of several variables `v w = 0 1, 2 2`.
+fn values(all: &[&Values]) -> Option<String> {
+    let variables = all.first().filter(|values| !values.is_empty())?.iter().map(|(variable, _)| char::from(*variable).to_string());
+    let told = match all[0].len() {
+        1 => written(&all.iter().map(|values| values[0].1).collect()),
+        _ => {
+            let one = |values: &&Values| values.iter().map(|(_, value)| value.to_string()).collect::<Vec<_>>().join(" ");
+            let some: Vec<String> = all.iter().take(CHOICES).map(one).collect();
+            some.join(", ") + if all.len() > CHOICES { " .." } else { "" }
+        }
+    };
+    Some(format!("{} = {told}", variables.collect::<Vec<_>>().join(" ")))
 }
 
 /// What is answered where it is asked: yes and no with the places, or where a walk leads.
@@ -82,11 +107,11 @@ pub fn answered(node: &Node, row: &Row, end: usize) -> String {
     }
 }
 
-/// All that a row of answers says.
-pub fn row(node: &Node, row: &Row, end: usize) -> String {
-    let answered = answered(node, row, end);
-    let all = if node.kind == Kind::Test { format!("{answered}; true {}", at(&row.found)) } else { answered };
-    match sees(node, row, end) {
+/// All that a group of rows says.
+pub fn group(node: &Node, group: &Group, end: usize) -> String {
+    let answered = answered(node, group.row, end);
+    let all = if node.kind == Kind::Test { format!("{answered}; true {}", at(&group.row.found)) } else { answered };
+    match sees(node, group, end) {
         Some(sees) => format!("{all} ({sees})"),
         None => all,
     }
@@ -98,9 +123,9 @@ pub fn from_end(node: &Node, end: usize) -> Option<String> {
     node.from_end.as_ref().filter(|_| !walked).map(|reached| format!("from the log's end to {}", written(reached)))
 }
 
-/// How many earlier places a part is asked from that are not shown.
+/// How many earlier places a part is asked from, or values it is asked with, that are not shown.
 pub fn left_out(node: &Node) -> Option<String> {
-    (node.left_out > 0).then(|| format!("the latest {} places; {} earlier ones are not shown", node.rows.len(), node.left_out))
+    (node.left_out > 0).then(|| format!("{} more places or values are not shown", node.left_out))
 }
 
 /// Where the verdict was what, and where it turned.
@@ -170,7 +195,7 @@ pub fn standing(facts: &Facts, names: &Names) -> Vec<String> {
         }
     }];
     if !job.waits.is_empty() {
-        let waits = waited(facts, names, &job.waits.iter().map(Node::named).collect::<Vec<_>>());
+        let waits = waited(facts, names, &job.waits);
         let waits_for = if job.ended && follows == facts.end { "It could go on with" } else { "It waits there for" };
         said.push(format!("{waits_for} {}.", waits.join("; or ")));
     }

@@ -1,10 +1,11 @@
 //! What a picture shows is what jobsheet answers; and its parts fit together as the language has it, so that they are the right parts.
 mod common;
 use common::{answer, example, facts, sheets, with_lines, Seeded};
+use picture::asked::Now;
 use picture::facts::Facts;
 use picture::fault::Refused;
 use picture::places::Places;
-use picture::tree::{Node, Now};
+use picture::tree::{Node, Values};
 use wyndhopper::{Kind, Sheet, SheetRoom};
 
 /// The sheet's log cut behind so many steps. Nothing is looked for: a job that was finished may be far from it there.
@@ -46,41 +47,50 @@ fn refused(sheet: &[u8]) -> String {
     Refused::of(sheet, fault).answer()
 }
 
-/// What a part's own parts say adds up to what it says.
-fn adds_up(node: &Node, end: usize) {
-    let all: Places = (0..=end).collect();
+/// What a part's own parts say adds up to what it says, for each choice of values. A row that is left out, since nothing leads to it, has found nothing.
+fn adds_up(node: &Node, facts: &Facts) {
+    let all: Places = (0..=facts.end).collect();
     if !node.parts.is_empty() && node.turned().is_none() {
         let own = 1 + node.sign.unwrap().own.room();
         assert_eq!(node.text[own..], node.parts.iter().flat_map(|part| part.text.clone()).collect::<Vec<u8>>());
     }
-    let [row] = &node.rows[..] else { return };
-    if row.now != Now::At(end) {
-        return;
+    for row in node.rows.iter().filter(|row| row.now == Now::At(facts.end)) {
+        let behind = |k: usize, now: Now, values: &Values| {
+            let found = node.parts[k].rows.iter().find(|row| row.now == now && row.values == *values);
+            found.map_or(Places::new(), |row| row.found.clone())
+        };
+        let part = |k: usize| behind(k, row.now, &row.values);
+        let with = |value: usize| {
+            let mut values: Values = row.values.iter().filter(|(variable, _)| Some(*variable) != node.variable()).copied().collect();
+            values.push((node.variable().unwrap(), value));
+            behind(0, row.now, &values)
+        };
+        match node.sign.unwrap().byte {
+            b'1' => assert_eq!(row.found, all),
+            b'!' => assert_eq!(row.found, &all - &part(0)),
+            b'&' => assert_eq!(row.found, &part(0) & &part(1)),
+            b'<' => {
+                let walk = node.parts[0].rows.iter().find(|walk| walk.now == row.now && walk.values == row.values);
+                let leads = |place: &usize| walk.is_some_and(|walk| walk.ways.iter().any(|(from, to)| from == place && !to.is_disjoint(&part(1))));
+                assert!(row.at.iter().all(|place| row.found.contains(place) == leads(place)));
+            }
+            b';' => assert_eq!(row.found, part(1)),
+            b'|' => assert_eq!(row.found, &part(0) | &part(1)),
+            b'*' => assert_eq!(row.found, &row.at | &part(0)),
+            b'?' => assert_eq!(row.found, &row.at & &behind(0, Now::Own, &row.values)),
+            b'-' => assert_eq!(row.found, part(0)),
+            b'e' | b'p' => assert_eq!(row.found, (0..facts.domain).flat_map(with).collect::<Places>()),
+            _ => assert!(node.parts.is_empty()),
+        }
     }
-    let part = |k: usize| &node.parts[k].rows[0].found;
-    match node.sign.unwrap().byte {
-        b'1' => assert_eq!(row.found, all),
-        b'!' => assert_eq!(row.found, &all - part(0)),
-        b'&' => assert_eq!(row.found, part(0) & part(1)),
-        b'<' => assert!(row
-            .at
-            .iter()
-            .all(|place| row.found.contains(place) == node.parts[0].rows[0].ways.iter().any(|(from, to)| from == place && !to.is_disjoint(part(1))))),
-        b';' => assert_eq!(&row.found, part(1)),
-        b'|' => assert_eq!(row.found, part(0) | part(1)),
-        b'*' => assert_eq!(row.found, &row.at | part(0)),
-        b'?' => assert_eq!(row.found, &row.at & part(0)),
-        b'-' => assert_eq!(&row.found, part(0)),
-        _ => assert!(node.parts.is_empty()),
-    }
-    node.parts.iter().for_each(|part| adds_up(part, end));
+    node.parts.iter().for_each(|part| adds_up(part, facts));
 }
 
 /// The actions that may come next are those of the waiting steps that are possible.
 fn waits_as_next(facts: &Facts, sheet: &[u8]) {
     let mut room = SheetRoom::new();
     let job = Sheet::read(sheet, &mut room).unwrap().job;
-    let waited = |action: usize| facts.standing.waits.iter().any(|node| node.named().is_none_or(|named| named == action));
+    let waited = |action: usize| facts.standing.waits.iter().any(|waited| waited.is_none_or(|waited| waited == action));
     let next: Vec<usize> = (0..facts.actions).filter(|&action| waited(action) && job.possible(action, facts.standing.follows) == Ok(true)).collect();
     assert_eq!(next, facts.standing.next);
 }
@@ -91,8 +101,8 @@ fn parts_add_up_on_the_examples() {
         let sheet = std::fs::read(&path).unwrap();
         if !answer(&sheet).starts_with("refused=") {
             let facts = facts(&sheet);
-            adds_up(&facts.ask, facts.end);
-            adds_up(&facts.run, facts.end);
+            adds_up(&facts.ask, &facts);
+            adds_up(&facts.run, &facts);
             waits_as_next(&facts, &sheet);
         }
     }
@@ -100,16 +110,17 @@ fn parts_add_up_on_the_examples() {
 
 #[test]
 fn parts_add_up_on_seeded_sheets() {
-    let mut seeded = Seeded(29);
-    for _ in 0..300 {
+    let mut seeded = Seeded { state: 29, variables: false };
+    for k in 0..600 {
+        seeded.variables = k % 2 == 1;
         let sheet = seeded.sheet();
         if answer(&sheet).starts_with("refused=") {
             continue; // a rule grew too long
         }
         let facts = facts(&sheet);
         assert_eq!(facts.answer(), answer(&sheet));
-        adds_up(&facts.ask, facts.end);
-        adds_up(&facts.run, facts.end);
+        adds_up(&facts.ask, &facts);
+        adds_up(&facts.run, &facts);
         waits_as_next(&facts, &sheet);
     }
 }

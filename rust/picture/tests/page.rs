@@ -1,10 +1,11 @@
 //! Pages of logs that no sheet of this version can have, laid out from facts that are put together here: hundreds of steps wrap, and nothing is lost.
 mod common;
 use common::{example, facts};
+use picture::asked::Now;
 use picture::facts::{Facts, Step};
 use picture::names::Names;
 use picture::places::Places;
-use picture::tree::{Node, Now};
+use picture::tree::Node;
 use picture::{page, text};
 
 /// The facts of the five cartons with so many steps, as if a later version had given them.

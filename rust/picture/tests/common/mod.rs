@@ -44,49 +44,63 @@ pub fn facts(sheet: &[u8]) -> Facts {
     Facts::of(&Sheet::read(sheet, &mut room).unwrap(), &Progress::quiet()).unwrap()
 }
 
-/// Seeded numbers, the same on every machine.
-pub struct Seeded(pub u64);
+/// Seeded numbers, the same on every machine, and rules made of them, with variables or without.
+pub struct Seeded {
+    pub state: u64,
+    pub variables: bool,
+}
 
 impl Seeded {
     pub fn below(&mut self, bound: usize) -> usize {
-        self.0 = self.0.wrapping_mul(6364136223846793005).wrapping_add(1442695040888963407);
-        ((self.0 >> 33) % bound as u64) as usize
+        self.state = self.state.wrapping_mul(6364136223846793005).wrapping_add(1442695040888963407);
+        ((self.state >> 33) % bound as u64) as usize
     }
 
-    /// A test or a walk over two fluents and three actions; a forward one only has no sign that goes back outside a `<`.
-    pub fn rule(&mut self, test: bool, forward: bool, deep: usize) -> String {
-        let leaf = deep == 0;
-        match (test, self.below(if leaf { 3 } else { 8 })) {
+    /// A test or a walk over two fluents and three actions; a forward one has no sign that goes back outside a `<`. `scope`: the variables that are bound around it.
+    pub fn rule(&mut self, test: bool, forward: bool, deep: usize, scope: &str) -> String {
+        if self.variables && deep > 0 && self.below(4) == 0 {
+            let own = ["v", "w"][self.below(2)];
+            return format!("{}{own}{}", if test { "e" } else { "p" }, self.rule(test, forward, deep - 1, &format!("{scope}{own}")));
+        }
+        match (test, self.below(if deep == 0 { 3 } else { 8 })) {
             (true, 0) => "1".to_string(),
-            (true, 1 | 2) => format!("f0{}", self.below(2)),
-            (true, 3) => format!("!{}", self.rule(true, false, deep - 1)),
-            (true, 4 | 5) => format!("&{}{}", self.rule(true, false, deep - 1), self.rule(true, false, deep - 1)),
-            (true, _) => format!("<{}{}", self.rule(false, false, deep - 1), self.rule(true, false, deep - 1)),
-            (false, 0) => format!("{}0{}", self.way("a", "r", forward), self.below(3)),
-            (false, 1) => format!("a0{}", self.below(3)),
-            (false, 2) => self.way("n", "u", forward).to_string(),
-            (false, 3 | 4) => format!(";{}{}", self.rule(false, forward, deep - 1), self.rule(false, forward, deep - 1)),
-            (false, 5) => format!("|{}{}", self.rule(false, forward, deep - 1), self.rule(false, forward, deep - 1)),
-            (false, 6) => format!("{}{}", self.way("*", "-", forward), self.rule(false, forward, deep - 1)),
-            (false, _) => format!("?{}", self.rule(true, false, deep - 1)),
+            (true, 1 | 2) => self.leaf("f", "g", 2, scope),
+            (true, 3) => format!("!{}", self.rule(true, false, deep - 1, scope)),
+            (true, 4 | 5) => format!("&{}{}", self.rule(true, false, deep - 1, scope), self.rule(true, false, deep - 1, scope)),
+            (true, _) => format!("<{}{}", self.rule(false, false, deep - 1, scope), self.rule(true, false, deep - 1, scope)),
+            (false, 0) if self.way(forward) => self.leaf("r", "s", 3, scope),
+            (false, 0 | 1) => self.leaf("a", "b", 3, scope),
+            (false, 2) => if self.way(forward) { "u" } else { "n" }.to_string(),
+            (false, 3 | 4) => format!(";{}{}", self.rule(false, forward, deep - 1, scope), self.rule(false, forward, deep - 1, scope)),
+            (false, 5) => format!("|{}{}", self.rule(false, forward, deep - 1, scope), self.rule(false, forward, deep - 1, scope)),
+            (false, 6) => format!("{}{}", if self.way(forward) { "-" } else { "*" }, self.rule(false, forward, deep - 1, scope)),
+            (false, _) => format!("?{}", self.rule(true, false, deep - 1, scope)),
         }
     }
 
-    fn way(&mut self, on: &'static str, back: &'static str, forward: bool) -> &'static str {
-        if forward || self.below(2) == 0 {
-            on
-        } else {
-            back
+    /// A leaf that names one of so many, or, where a variable is bound, one behind another.
+    fn leaf(&mut self, plain: &str, plus: &str, many: usize, scope: &str) -> String {
+        match scope.is_empty() || self.below(3) == 0 {
+            true => format!("{plain}0{}", self.below(many)),
+            false => format!("{plus}0{}{}", self.below(many - 1), scope.chars().nth(self.below(scope.len())).unwrap()),
         }
     }
 
-    /// A sheet over the theory of two cartons.
+    fn way(&mut self, forward: bool) -> bool {
+        !forward && self.below(2) == 0
+    }
+
+    /// A sheet over the theory of two cartons; with variables, over two values.
     pub fn sheet(&mut self) -> Vec<u8> {
         let log: String = (0..self.below(8)).map(|_| format!("0{}", self.below(3))).collect();
-        let (ask, run) = (self.rule(true, false, 4), self.rule(false, true, 4));
-        with_lines(
+        let (ask, run) = (self.rule(true, false, 4, ""), self.rule(false, true, 4, ""));
+        let sheet = with_lines(
             &example("two-cartons.sheet"),
             &[&format!("log={log}"), &format!("ask={ask}"), &format!("run={run}"), &format!("more={}", self.below(4))],
-        )
+        );
+        match self.variables {
+            false => sheet,
+            true => String::from_utf8(sheet).unwrap().replace("sheet=1", "sheet=2").replace("actions=03\n", "actions=03\ndomain=02\n").into_bytes(),
+        }
     }
 }
