@@ -11,7 +11,7 @@
  *         each value, so binders nested k deep can take the domain to the power of k times as long as their part alone. A finish whose run names its labels tries one action a step. A run that
  *         leaves open which actions come, and says only what has to be on in the end, is searched: up to `actions` to the power of `more` sequences, of those actions that matter to it; with
  *         more than ten such actions and `more` 6 that is over 10 milliseconds. docs/BENCHMARKS.md has the times.
- *   Stack: measured, less than 28 kilobytes (a text of 255 signs that is refused; an accepted call takes less than 16); no heap.
+ *   Stack: measured, less than 40 kilobytes (a text of 255 signs that is refused; an accepted call takes less than 20); no heap.
  *   Threads: nothing is kept between calls, so any number of threads may call at once, each with lent memory of its own.
  *
  * A job is a theory and a log. The theory: `fluents` (0 to 32), `actions` (1 to 64), the start state, and a mask table of four masks an action, need, ban, put, drop,
