@@ -37,7 +37,7 @@ pub enum Sign {
     Stranger,
 }
 
-// The table in four parts, by the order of the bytes: below `-` (45), ..
+// The table in seven parts, by the order of the bytes: below `-` (45), ..
 fn up_to_star(byte: u8) -> Sign
     requires { ⌜ byte < 45 ⌝ }
     ensures { λ r. ⌜ r ≡ signOf byte ⌝ }
@@ -50,14 +50,24 @@ fn up_to_star(byte: u8) -> Sign
     }
 }
 
-// .. from there to below `a` (97), ..
-fn minus_to_question(byte: u8) -> Sign
-    requires { ⌜ (45 ≤ byte) × (byte < 97) ⌝ }
+// .. from there to below `;` (59), ..
+fn minus_and_one(byte: u8) -> Sign
+    requires { ⌜ (45 ≤ byte) × (byte < 59) ⌝ }
     ensures { λ r. ⌜ r ≡ signOf byte ⌝ }
 {
     match byte {
         b'-' => Sign::OverWalk,
         b'1' => Sign::Constant,
+        _ => Sign::Stranger,
+    }
+}
+
+// .. from there to below `a` (97), ..
+fn semicolon_to_question(byte: u8) -> Sign
+    requires { ⌜ (59 ≤ byte) × (byte < 97) ⌝ }
+    ensures { λ r. ⌜ r ≡ signOf byte ⌝ }
+{
+    match byte {
         b';' => Sign::TwoWalks,
         b'<' => Sign::WalkThenTest,
         b'?' => Sign::OverTest,
@@ -65,14 +75,24 @@ fn minus_to_question(byte: u8) -> Sign
     }
 }
 
-// .. from there to below `n` (110), ..
-fn a_to_g(byte: u8) -> Sign
-    requires { ⌜ (97 ≤ byte) × (byte < 110) ⌝ }
+// .. from there to below `e` (101), ..
+fn a_and_b(byte: u8) -> Sign
+    requires { ⌜ (97 ≤ byte) × (byte < 101) ⌝ }
     ensures { λ r. ⌜ r ≡ signOf byte ⌝ }
 {
     match byte {
         b'a' => Sign::NamedStep,
         b'b' => Sign::SumStep,
+        _ => Sign::Stranger,
+    }
+}
+
+// .. from there to below `n` (110), ..
+fn e_to_g(byte: u8) -> Sign
+    requires { ⌜ (101 ≤ byte) × (byte < 110) ⌝ }
+    ensures { λ r. ⌜ r ≡ signOf byte ⌝ }
+{
+    match byte {
         b'e' => Sign::SomeTest,
         b'f' => Sign::NamedFluent,
         b'g' => Sign::SumFluent,
@@ -80,15 +100,25 @@ fn a_to_g(byte: u8) -> Sign
     }
 }
 
-// .. and from there on.
-fn n_to_bar(byte: u8) -> Sign
-    requires { ⌜ 110 ≤ byte ⌝ }
+// .. from there to below `s` (115), ..
+fn n_to_r(byte: u8) -> Sign
+    requires { ⌜ (110 ≤ byte) × (byte < 115) ⌝ }
     ensures { λ r. ⌜ r ≡ signOf byte ⌝ }
 {
     match byte {
         b'n' => Sign::Step,
         b'p' => Sign::SomeWalk,
         b'r' => Sign::NamedStep,
+        _ => Sign::Stranger,
+    }
+}
+
+// .. and from there on.
+fn s_to_bar(byte: u8) -> Sign
+    requires { ⌜ 115 ≤ byte ⌝ }
+    ensures { λ r. ⌜ r ≡ signOf byte ⌝ }
+{
+    match byte {
         b's' => Sign::SumStep,
         b'u' => Sign::Step,
         b'|' => Sign::TwoWalks,
@@ -96,20 +126,28 @@ fn n_to_bar(byte: u8) -> Sign
     }
 }
 
-// A match of all the signs the compiler would leave a call of its own, and each sign would be branched on twice; the four parts it sets into whoever asks.
+// A match of all the signs the compiler would leave a call of its own, and each sign would be branched on twice; parts of three it sets into whoever asks.
 pub fn sign_of(byte: u8) -> Sign
     ensures { λ r. ⌜ r ≡ signOf byte ⌝ }
 {
     if byte < b'a' {
         if byte < b'-' {
             up_to_star(byte)
+        } else if byte < b';' {
+            minus_and_one(byte)
         } else {
-            minus_to_question(byte)
+            semicolon_to_question(byte)
         }
     } else if byte < b'n' {
-        a_to_g(byte)
+        if byte < b'e' {
+            a_and_b(byte)
+        } else {
+            e_to_g(byte)
+        }
+    } else if byte < b's' {
+        n_to_r(byte)
     } else {
-        n_to_bar(byte)
+        s_to_bar(byte)
     }
 }
 
