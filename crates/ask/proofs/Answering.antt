@@ -16,16 +16,16 @@ use Rattle.meaning.specs.Refusal.{Accepted}
 use Rattle.positions.specs.declared.PositionSet.{PositionSet}
 use Rattle.positions.specs.Positions.{holds}
 use Rattle.theory.specs.Subject.{Subject, countsOf, worldOf}
-use Rattle.rule.specs.Standing.{Stands}
+use Rattle.rule.specs.Standing.{Stands, Ends}
 use Rattle.ask.specs.Image.{UpTo}
 use Rattle.ask.specs.Values.{unbound}
 use Rattle.ask.specs.Found.{WalkHere, TestHere, Tabled, LaidOut, WalkFound, TestFound}
 use Rattle.ask.specs.Rows.{askRows}
 use Rattle.ask.specs.Reach.{WalkReached}
-use Rattle.ask.specs.Verdict.{Verdict, TestJudged}
+use Rattle.ask.specs.Verdict.{Verdict, TestJudged, SoundTest, TestTold}
 use Rattle.ask.proofs.Bound.{bears-none}
 use Rattle.ask.proofs.Loops.{one-there}
-use Rattle.ask.proofs.Asking.{stands-first, asked-readable, asked-times, asked-walk, asked-test}
+use Rattle.ask.proofs.Asking.{stands-first, asked-readable, asked-times, asked-walk, asked-test, known-test}
 
 -- no variable is bound where a question is asked
 abbrev values : Subject → List ℕ
@@ -62,13 +62,14 @@ module _ {kind : Kind} {s : Subject} {bytes ends rows : List ℕ} {then now : �
       let i = f .found (worldOf s) tabled early t h in
       (λ k. i .each then .0 k .1, λ k. i .each then .1 (alone then .1 refl, k))
 
+-- the test stands at the text's first place
+pub test-first : {bytes ends : List ℕ} → SoundTest bytes → Ends bytes ends → TestHere bytes ends 0
+test-first known marked = let (t, o) = known-test known in record { test = t; stands = stands-first o; marked = marked }
+
 module _ {s : Subject} {bytes ends rows : List ℕ} {then now : ℕ} where
-  -- the walk, the test, stands at the text's first place
+  -- and so does the walk
   pub walk-first : Accepted (askRows walkKind s bytes then now) → LaidOut s bytes ends rows → WalkHere bytes ends 0
   walk-first a laid = let (x, o) = asked-walk a in record { walk = x; stands = stands-first o; marked = laid .marked }
-
-  pub test-first : Accepted (askRows testKind s bytes then now) → LaidOut s bytes ends rows → TestHere bytes ends 0
-  test-first a laid = let (t, o) = asked-test a in record { test = t; stands = stands-first o; marked = laid .marked }
 
   -- reach
   pub reach-right : (a : Accepted (askRows walkKind s bytes then now)) → LaidOut s bytes ends rows → (one found : PositionSet)
@@ -88,7 +89,7 @@ module _ {s : Subject} {bytes ends rows : List ℕ} {then now : ℕ} where
       }
 
   -- verdict
-  pub verdict-right : (a : Accepted (askRows testKind s bytes then now)) → LaidOut s bytes ends rows → (one kept : PositionSet)
+  verdict-right : (a : Accepted (askRows testKind s bytes then now)) → LaidOut s bytes ends rows → (one kept : PositionSet)
       → ((q : ℕ) → holds one q ≡ (eqb then q && ltb q places)) → TestFound bytes 0 rows (values s) now (holds one) (holds kept)
       → (has : Bool) → has ≡ holds kept then → TestJudged s bytes then now (some has)
   verdict-right a laid one kept at f has e =
@@ -100,3 +101,13 @@ module _ {s : Subject} {bytes ends rows : List ℕ} {then now : ℕ} where
           → (has : Bool) → has ≡ holds kept then → Verdict (worldOf s) t then now (some has)
       go t into out true e = inl (refl, into (sym e))
       go t into out false e = inr (refl, λ h. off-on (sym e) (out h))
+
+-- whichever log the rows are of
+pub test-told : {bytes ends rows : List ℕ} {domain then now : ℕ} → Ends bytes ends → (one kept : PositionSet)
+    → ((q : ℕ) → holds one q ≡ (eqb then q && ltb q places)) → TestFound bytes 0 rows (unbound domain) now (holds one) (holds kept)
+    → (has : Bool) → has ≡ holds kept then → TestTold bytes domain rows then now has
+test-told {bytes} {rows = rows} {now = now} marked one kept at f has e = record {
+  each = λ s many a described.
+  let found = subst (λ (d : ℕ). TestFound bytes 0 rows (unbound d) now (holds one) (holds kept)) (sym many) f in
+  verdict-right a (record { marked = marked; described = described }) one kept at found has e;
+}

@@ -18,6 +18,7 @@ use Rattle.theory.proofs.Reading.{checked, readable}
 use Rattle.rule.specs.Outcome.{textRows, ruleRows}
 use Rattle.rule.specs.Standing.{Stands}
 use Rattle.ask.specs.Rows.{timeRows, askRows}
+use Rattle.ask.specs.Verdict.{SoundTest}
 
 module _ (kind : Kind) (s : Subject) (bytes : List ℕ) (then now : ℕ) where
   abbrev rule-part : List {1} Row
@@ -67,6 +68,19 @@ test-of bytes (ofWalk x) o = absurd (o .fits)
 pub stands-first : {kind : Kind} {bytes : List ℕ} {r : Rule} → Opens kind bytes r [] → Stands bytes 0 r
 stands-first o = record { rest = []; spells = o .spells; shortActions = o .shortActions; shortFluents = o .shortFluents }
 
+-- a text that is accepted as a test: how long it is, and the test that it spells
+module _ {bytes : List ℕ} (known : SoundTest bytes) where
+  fine-test : BadRule (known .counts .domain) testKind bytes → ⊥
+  fine-test = not-first (known .accepted)
+
+  pub known-short : length bytes ≤ textLimit
+  known-short =
+      let fits : ¬ (textLimit < length bytes) = λ h. fine-test (inr (inl h)) in
+      omega arith
+
+  pub known-test : (t : Test) × Opens testKind bytes (ofTest t) []
+  known-test = let (r, o) = whole (known .counts .domain) testKind bytes fine-test in test-of bytes r o
+
 -- what an accepted question tells
 module _ {kind : Kind} {s : Subject} {bytes : List ℕ} {then now : ℕ} (a : Accepted (askRows kind s bytes then now)) where
   parts : Accepted (worldRows s) × Accepted (textRows true kind bytes (countsOf s) ++ timeRows s then now)
@@ -95,8 +109,11 @@ module _ {kind : Kind} {s : Subject} {bytes : List ℕ} {then now : ℕ} (a : Ac
 
 -- the walk that is asked, and the test
 module _ {s : Subject} {bytes : List ℕ} {then now : ℕ} where
+  pub asked-sound : Accepted (askRows testKind s bytes then now) → SoundTest bytes
+  asked-sound a = record { counts = countsOf s; accepted = ruled a .0 }
+
   pub asked-walk : Accepted (askRows walkKind s bytes then now) → (x : Walk) × Opens walkKind bytes (ofWalk x) []
   asked-walk a = let (r, o) = whole (countsOf s .domain) walkKind bytes (fine-rule a) in walk-of bytes r o
 
   pub asked-test : Accepted (askRows testKind s bytes then now) → (t : Test) × Opens testKind bytes (ofTest t) []
-  asked-test a = let (r, o) = whole (countsOf s .domain) testKind bytes (fine-rule a) in test-of bytes r o
+  asked-test a = known-test (asked-sound a)

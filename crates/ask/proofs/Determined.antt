@@ -3,7 +3,7 @@ use mathlib.Core.Path.{_≡_, refl, sym, ap, subst, _∙_}
 use mathlib.Core.Logic.{inl, inr}
 use mathlib.Core.Bool.{Bool, true, false, true≢false}
 use mathlib.Core.List.{List, [], _∷_}
-use mathlib.Core.Option.{Option}
+use mathlib.Core.Option.{Option, Option·some-injective}
 use Prim.Native.Nat.{ℕ, _^_, _<_}
 use native.Mathlib.Decide.{decLt}
 use native.Mathlib.Omega.{arith}
@@ -13,12 +13,13 @@ use Rattle.meaning.specs.Limits.{actionLimit}
 use Rattle.meaning.specs.Theory.{World}
 use Rattle.meaning.specs.Rule.{Kind, Walk, Test, ofWalk, ofTest, walkKind, testKind, Opens}
 use Rattle.meaning.specs.Reach.{ReachedAs}
-use Rattle.meaning.specs.Refusal.{falls}
+use Rattle.meaning.specs.Refusal.{Accepted, falls}
 use Rattle.meaning.proofs.Reading.{unique-reading}
 use Rattle.meaning.proofs.Reach.{reached-as-unique}
 use Rattle.meaning.proofs.Refusal.{answered-determined}
 use Rattle.laws.proofs.Truth.{same-truth}
-use Rattle.theory.specs.Subject.{Subject, worldOf}
+use Rattle.theory.specs.Subject.{Subject, countsOf, worldOf}
+use Rattle.theory.specs.Tables.{Describes}
 use Rattle.refusal.proofs.Numbers.{one-number, some-number}
 use Rattle.ask.specs.Asked.{EndTold, AskTold}
 use Rattle.ask.specs.Values.{unbound}
@@ -29,7 +30,7 @@ use Rattle.ask.specs.declared.VerdictAnswer.{VerdictAnswer}
 use Rattle.ask.specs.declared.VerdictAnswer.the-variants.{Refused as Declined, Yes, No}
 use Rattle.ask.specs.Rows.{askRows}
 use Rattle.ask.specs.Reach.{numberGiven, setGiven, countGiven, earliestGiven, ReachAnswered}
-use Rattle.ask.specs.Verdict.{numberGiven as verdictNumber, verdictGiven, Verdict, VerdictAnswered}
+use Rattle.ask.specs.Verdict.{numberGiven as verdictNumber, verdictGiven, Verdict, TestJudged, TestTold, VerdictAnswered}
 
 -- the bytes spell one walk, one test
 pub one-walk : {bytes : List ℕ} (x y : Walk) → Opens walkKind bytes (ofWalk x) [] → Opens walkKind bytes (ofWalk y) [] → x ≡ y
@@ -63,6 +64,16 @@ one-verdict w t then now (inl h) (inr k) = absurd (k .1 (h .1))
 one-verdict w t then now (inr h) (inl k) = absurd (h .1 (k .1))
 one-verdict w t then now (inr h) (inr k) = h .0 ∙ sym (k .0)
 
+-- what a test is judged to be, and told to be over the rows of a log that it can be asked of
+pub judged-determined : {s : Subject} {bytes : List ℕ} {then now : ℕ} {v u : Option Bool} → TestJudged s bytes then now v → TestJudged s bytes then now u → v ≡ u
+judged-determined {s} {then = then} {now = now} {v = v} {u = u} r q =
+    let e : q .test ≡ r .test = one-test (q .test) (r .test) (q .spells) (r .spells) in
+    one-verdict (worldOf s) (r .test) then now (r .judged) (subst (λ (t : Test). Verdict (worldOf s) t then now u) e (q .judged))
+
+pub told-determined : {s : Subject} {bytes rows : List ℕ} {domain then now : ℕ} → countsOf s .domain ≡ domain → Accepted (askRows testKind s bytes then now)
+    → Describes (worldOf s) rows → (a b : Bool) → TestTold bytes domain rows then now a → TestTold bytes domain rows then now b → a ≡ b
+told-determined {s} many fine rows a b f g = Option·some-injective _ _ (judged-determined (f .each s many fine rows) (g .each s many fine rows))
+
 module _ (s : Subject) (bytes : List ℕ) (then now : ℕ) where
   pub reach-determined : (a b : ReachAnswer) → ReachAnswered s bytes then now (numberGiven a) (setGiven a) (countGiven a) (earliestGiven a)
       → ReachAnswered s bytes then now (numberGiven b) (setGiven b) (countGiven b) (earliestGiven b) → a ≡ b
@@ -76,10 +87,7 @@ module _ (s : Subject) (bytes : List ℕ) (then now : ℕ) where
   pub verdict-determined : (a b : VerdictAnswer) → VerdictAnswered s bytes then now (verdictNumber a) (verdictGiven a)
       → VerdictAnswered s bytes then now (verdictNumber b) (verdictGiven b) → a ≡ b
   verdict-determined a b x y =
-      answered-determined x y (λ n r q. same-verdict a b n (r ∙ sym q)) (λ n r q.
-      let e : q .test ≡ r .test = one-test (q .test) (r .test) (q .spells) (r .spells) in
-      let other = subst (λ (t : Test). Verdict (worldOf s) t then now (verdictGiven b)) e (q .judged) in
-      same-verdict a b n (one-verdict (worldOf s) (r .test) then now (r .judged) other))
+      answered-determined x y (λ n r q. same-verdict a b n (r ∙ sym q)) (λ n r q. same-verdict a b n (judged-determined r q))
 
   -- the numbers of both calls rise but at one place: 13 stands "between 9 and 10"
   pub ask-rises : (kind : Kind) → falls (askRows kind s bytes then now) ≡ (13, 10) ∷ []

@@ -9,8 +9,11 @@ use Rattle.refusal.specs.Number.{numberOf}
 use Rattle.meaning.specs.Theory.{World}
 use Rattle.meaning.specs.Rule.{Test, ofTest, testKind, Opens}
 use Rattle.meaning.specs.Leads.{Holds}
-use Rattle.meaning.specs.Refusal.{Answered}
-use Rattle.theory.specs.Subject.{Subject, worldOf}
+use Rattle.meaning.specs.Refusal.{Accepted, Answered}
+use Rattle.theory.specs.Subject.{Subject, countsOf, worldOf}
+use Rattle.theory.specs.Tables.{Describes}
+use Rattle.theory.specs.declared.Counts.{Counts}
+use Rattle.rule.specs.Outcome.{textRows}
 use Rattle.ask.specs.Rows.{askRows}
 use Rattle.ask.specs.declared.VerdictAnswer.{VerdictAnswer}
 use Rattle.ask.specs.declared.VerdictAnswer.the-variants.{Refused, Yes, No}
@@ -35,6 +38,15 @@ pub record TestJudged (s : Subject) (bytes : List ℕ) (then now : ℕ) (verdict
   pub test : Test
   pub spells : Opens testKind bytes (ofTest test) []
   pub judged : Verdict (worldOf s) test then now verdict
+
+-- a test that some theory knows
+pub record SoundTest (bytes : List ℕ) : Type 0 where
+  pub counts : Counts
+  pub accepted : Accepted (textRows true testKind bytes counts)
+
+-- the verdict over the log that the rows are of, if nothing refuses the question about it
+pub record TestTold (bytes : List ℕ) (domain : ℕ) (rows : List ℕ) (then now : ℕ) (answer : Bool) : Type 0 where
+  pub each : (s : Subject) → countsOf s .domain ≡ domain → Accepted (askRows testKind s bytes then now) → Describes (worldOf s) rows → TestJudged s bytes then now (some answer)
 
 -- the number and the verdict that a call gives
 abbrev pub VerdictAnswered : Subject → List ℕ → ℕ → ℕ → ℕ → Option Bool → Type 0

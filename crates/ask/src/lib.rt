@@ -23,9 +23,11 @@ use positions::PositionSet;
 use refusal::Refusal;
 use rule::Kind;
 use rule::ends::ENDS_ROOM;
+use rule::ends::fill_ends;
 use theory::Check;
 use theory::Setting;
 use theory::tables::ROWS;
+use theory::tables::transpose;
 
 // What `reach` answers: the set of positions with bit q for position q, their count and the earliest.
 pub enum ReachAnswer {
@@ -78,19 +80,34 @@ pub fn reach(
     }
 }
 
+// Whether a test is true at `then`, with this now, over the log that the rows are of: for whoever asks more than one test of it, and has passed every check.
+pub fn true_at(
+    test: &[u8],
+    domain: usize,
+    rows: &[u64; ROWS],
+    then: usize,
+    now: usize,
+) -> bool
+    requires { ⌜ Verdict.SoundTest (test .now) ⌝ }
+    ensures { λ r. ⌜ Verdict.TestTold (test .entry .now) domain (rows .entry .now) then now r ⌝ }
+{
+    let mut ends = [0u8; ENDS_ROOM];
+    fill_ends(test, &mut ends);
+    let among = PositionSet::at(then);
+    let kept = run::test(test, &ends, domain, among, now, rows);
+    kept.has(then)
+}
+
 // Whether a test is true at `then`, with this now, once every check is passed: for whoever has passed them.
 pub fn judged(s: Setting, masks: &[u32], log: &[u8], test: &[u8], then: usize, now: usize) -> bool
     requires { ⌜ Accepted (askRows testKind (subjectOf s (masks .now) (log .now)) (test .now) then now) ⌝ }
     ensures { λ r. ⌜ Verdict.TestJudged (subjectOf s (masks .entry .now) (log .entry .now)) (test .entry .now) then now (some r) ⌝ }
 {
-    let mut ends = [0u8; ENDS_ROOM];
     let mut rows = [0u64; ROWS];
-    lay_out(s, masks, log, test, &mut ends, &mut rows);
+    transpose(s, masks, log, &mut rows);
     let counts = s.counts;
     let domain = counts.domain;
-    let among = PositionSet::at(then);
-    let kept = run::test(test, &ends, domain, among, now, &rows);
-    kept.has(then)
+    true_at(test, domain, &rows, then, now)
 }
 
 // Whether a test is true at `then`, with this now.
