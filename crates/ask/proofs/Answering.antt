@@ -4,11 +4,12 @@ use mathlib.Core.Logic.{inl, inr, _↔_}
 use mathlib.Core.Bool.{Bool, true, false, _&&_}
 use mathlib.Core.List.{List}
 use mathlib.Core.Option.{some}
-use Prim.Native.Nat.{ℕ}
+use Prim.Native.Nat.{ℕ, _≤_}
 use native.Mathlib.Omega.{arith}
 use lib.Dec.{eqb, ltb}
+use lib.ListN.{length}
 use Rattle.laws.proofs.Truth.{off-on}
-use Rattle.meaning.specs.Limits.{places}
+use Rattle.meaning.specs.Limits.{places, textLimit}
 use Rattle.meaning.specs.Rule.{Kind, Walk, Test, ofWalk, ofTest, walkKind, testKind}
 use Rattle.meaning.specs.Leads.{Leads, Holds}
 use Rattle.meaning.specs.Reach.{countOf, earliestOf, SetWord}
@@ -16,16 +17,23 @@ use Rattle.meaning.specs.Refusal.{Accepted}
 use Rattle.positions.specs.declared.PositionSet.{PositionSet}
 use Rattle.positions.specs.Positions.{holds}
 use Rattle.theory.specs.Subject.{Subject, countsOf, worldOf}
+use Rattle.rule.specs.Ends.{FillOutcome}
 use Rattle.rule.specs.Standing.{Stands, Ends}
-use Rattle.ask.specs.Image.{UpTo}
-use Rattle.ask.specs.Values.{unbound}
-use Rattle.ask.specs.Found.{WalkHere, TestHere, Tabled, LaidOut, WalkFound, TestFound}
+use Rattle.rule.proofs.Widths.{ends-told}
+use Rattle.runs.specs.Image.{UpTo}
+use Rattle.runs.specs.Values.{unbound}
+use Rattle.runs.specs.Found.{WalkHere, TestHere, Tabled, WalkFound, TestFound}
 use Rattle.ask.specs.Rows.{askRows}
+use Rattle.ask.specs.LaidOut.{noEnds, LaidOut}
 use Rattle.ask.specs.Reach.{WalkReached}
 use Rattle.ask.specs.Verdict.{Verdict, TestJudged, SoundTest, TestTold}
-use Rattle.ask.proofs.Bound.{bears-none}
-use Rattle.ask.proofs.Loops.{one-there}
+use Rattle.runs.proofs.Bound.{bears-none}
+use Rattle.runs.proofs.Loops.{one-there}
 use Rattle.ask.proofs.Asking.{stands-first, asked-readable, asked-times, asked-walk, asked-test, known-test}
+
+-- a table that was empty, filled for a text of a rule's length, is the text's
+pub ends-marked : {bytes before after : List ℕ} → length bytes ≤ textLimit → before ≡ noEnds → FillOutcome bytes before after → Ends bytes after
+ends-marked {bytes} {before} {after} short empty o = ends-told bytes after short (subst (λ (l : List ℕ). FillOutcome bytes l after) empty o)
 
 -- no variable is bound where a question is asked
 abbrev values : Subject → List ℕ
@@ -108,6 +116,6 @@ pub test-told : {bytes ends rows : List ℕ} {domain then now : ℕ} → Ends by
     → (has : Bool) → has ≡ holds kept then → TestTold bytes domain rows then now has
 test-told {bytes} {rows = rows} {now = now} marked one kept at f has e = record {
   each = λ s many a described.
-  let found = subst (λ (d : ℕ). TestFound bytes 0 rows (unbound d) now (holds one) (holds kept)) (sym many) f in
-  verdict-right a (record { marked = marked; described = described }) one kept at found has e;
+      let found = subst (λ (d : ℕ). TestFound bytes 0 rows (unbound d) now (holds one) (holds kept)) (sym many) f in
+      verdict-right a (record { marked = marked; described = described }) one kept at found has e;
 }

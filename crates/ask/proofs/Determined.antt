@@ -22,8 +22,8 @@ use Rattle.theory.specs.Subject.{Subject, countsOf, worldOf}
 use Rattle.theory.specs.Tables.{Describes}
 use Rattle.refusal.proofs.Numbers.{one-number, some-number}
 use Rattle.ask.specs.Asked.{EndTold, AskTold}
-use Rattle.ask.specs.Values.{unbound}
-use Rattle.ask.specs.Found.{Tabled, WalkHere}
+use Rattle.runs.specs.Values.{unbound}
+use Rattle.runs.specs.Found.{Tabled, WalkHere}
 use Rattle.ask.specs.declared.ReachAnswer.{ReachAnswer}
 use Rattle.ask.specs.declared.ReachAnswer.the-variants.{Refused, Reached}
 use Rattle.ask.specs.declared.VerdictAnswer.{VerdictAnswer}

@@ -10,10 +10,10 @@ use Rattle.laws.proofs.Truth.{and-iff}
 use Rattle.meaning.specs.Limits.{places}
 use Rattle.meaning.specs.Leads.{Leads}
 use Rattle.meaning.specs.Asks.{AsksAt}
-use Rattle.ask.specs.Image.{Set, UpTo}
-use Rattle.ask.specs.Values.{unbound}
-use Rattle.ask.specs.Found.{WalkFound}
-use Rattle.ask.specs.Asked.{AskFound, EndTold, AskTold}
+use Rattle.runs.specs.Image.{Set, UpTo}
+use Rattle.runs.specs.Values.{unbound}
+use Rattle.runs.specs.Found.{WalkFound, AskFound}
+use Rattle.ask.specs.Asked.{EndTold, AskTold}
 
 module _ {from : Set} (front : (q : ℕ) → from q ≡ (eqb 0 q && ltb q places)) where
   only : (q : ℕ) → from q ≡ true → 0 ≡ q

@@ -11,9 +11,8 @@ use Rattle.meaning.specs.Rule.{Walk, ofWalk}
 use Rattle.meaning.specs.Leads.{Leads}
 use Rattle.meaning.specs.Asks.{AsksAt}
 use Rattle.rule.specs.Standing.{Stands}
-use Rattle.ask.specs.Image.{Set, UpTo}
-use Rattle.ask.specs.Values.{unbound}
-use Rattle.ask.specs.Found.{Tabled}
+use Rattle.runs.specs.Values.{unbound}
+use Rattle.runs.specs.Found.{Tabled}
 
 -- over the log that the rows describe, with now at its end, so many values and no variable bound, the job leads from 0 to the end
 pub record EndTold (job : List ℕ) (domain : ℕ) (rows : List ℕ) (end : ℕ) (answer : Bool) : Type 0 where
@@ -23,11 +22,3 @@ pub record EndTold (job : List ℕ) (domain : ℕ) (rows : List ℕ) (end : ℕ)
 pub record AskTold (may : ℕ → Bool) (job : List ℕ) (domain : ℕ) (rows : List ℕ) (end asked : ℕ) : Type 0 where
   pub each : (w : World) → Tabled w rows (unbound domain) end → (x : Walk) → Stands job 0 (ofWalk x) → (a : ℕ) → a < actionLimit
       → (on asked a ≡ true) ↔ AsksAt may w 0 x 0 end a
-
--- the actions that a walk, whose text begins at a place, asks for at now = n, from some position of a set
-abbrev pub AskedBy : (ℕ → Bool) → World → ℕ → Walk → ℕ → Set → ℕ → Type 0
-AskedBy may w at x n from asked = (a : ℕ) → a < actionLimit → (on asked a ≡ true) ↔ ((p : ℕ) × (from p ≡ true) × AsksAt may w at x p n a)
-
--- the same of the walk at a place of the text
-pub record AskFound (may : ℕ → Bool) (text : List ℕ) (at : ℕ) (rows bound : List ℕ) (now : ℕ) (from : Set) (asked : ℕ) : Type 0 where
-  pub found : (w : World) → Tabled w rows bound now → UpTo now from → (x : Walk) → Stands text at (ofWalk x) → AskedBy may w at x now from asked

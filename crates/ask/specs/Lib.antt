@@ -1,9 +1,5 @@
-pub mod Image
-pub mod Values
-pub mod Found
-pub mod Slots
-pub mod Run
 pub mod Rows
+pub mod LaidOut
 pub mod Reach
 pub mod Verdict
 pub mod Asked

@@ -1,9 +1,9 @@
 // A job over a log as its rows describe it, for whoever looks for its end: whether it has come to it, and which actions it asks for next. The table of ends is made once, since the job stays
 // while the log grows; and the rows are the caller's, who puts a step on them and takes it off again.
 ghost use Rattle.meaning.specs.Lengths.{allows};
-ghost use Rattle.ask.specs.Found.{WalkHere};
+ghost use Rattle.runs.specs.Found.{WalkHere};
 ghost use Rattle.ask.specs.Asked.{EndTold, AskTold};
-use crate::run;
+use evaluator::run;
 use positions::PositionSet;
 use rule::ends::ENDS_ROOM;
 use theory::tables::ROWS;

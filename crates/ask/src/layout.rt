@@ -4,7 +4,7 @@ ghost use Prim.Native.Nat.{_≤_};
 ghost use lib.ListN.{length};
 ghost use Rattle.meaning.specs.Limits.{textLimit};
 ghost use Rattle.theory.specs.Subject.{subjectOf, Readable};
-ghost use Rattle.ask.specs.Found.{noEnds, LaidOut};
+ghost use Rattle.ask.specs.LaidOut.{noEnds, LaidOut};
 use rule::ends::ENDS_ROOM;
 use rule::ends::fill_ends;
 use theory::Setting;

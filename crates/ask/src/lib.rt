@@ -7,17 +7,12 @@ ghost use Rattle.ask.specs.Rows.{askRows};
 ghost use Rattle.ask.specs.Reach;
 ghost use Rattle.ask.specs.Verdict;
 
-mod asks; // asks.rt: the actions that a walk asks for next
 mod checks; // checks.rt: which refusal a question is given
-mod evaluator; // evaluator.rt: the walk function and the test function
 pub mod job; // job.rt: a job over a log as it stands
 mod layout; // layout.rt: what the evaluator reads of a question
-mod run; // run.rt: a rule from its first place on, with slots where it keeps something
-mod slots; // slots.rt: what a run keeps
-mod step; // step.rt: the signs with no part
-mod values; // values.rt: what the variables stand for
 
 use checks::check;
+use evaluator::run;
 use layout::lay_out;
 use positions::PositionSet;
 use refusal::Refusal;
@@ -81,13 +76,7 @@ pub fn reach(
 }
 
 // Whether a test is true at `then`, with this now, over the log that the rows are of: for whoever asks more than one test of it, and has passed every check.
-pub fn true_at(
-    test: &[u8],
-    domain: usize,
-    rows: &[u64; ROWS],
-    then: usize,
-    now: usize,
-) -> bool
+pub fn true_at(test: &[u8], domain: usize, rows: &[u64; ROWS], then: usize, now: usize) -> bool
     requires { ⌜ Verdict.SoundTest (test .now) ⌝ }
     ensures { λ r. ⌜ Verdict.TestTold (test .entry .now) domain (rows .entry .now) then now r ⌝ }
 {

@@ -18,7 +18,7 @@ use Rattle.spelling.specs.Scan.{NumberAt}
 use Rattle.rule.proofs.Numbers.{number-tens, number-ones}
 use Rattle.rule.specs.Standing.{Ends}
 use Rattle.rule.proofs.Spread.{Spread, spread, always-at, fluent-at, neg-at, both-at, exists-at}
-use Rattle.ask.proofs.Calls.{end-stands}
+use Rattle.runs.proofs.Calls.{end-stands}
 use Rattle.finish.specs.Lengths.{Lacks, Is, MayTold}
 
 -- the number at a place is one only

@@ -27,10 +27,10 @@ use Rattle.theory.proofs.Toggled.{toggled-on, toggled-off}
 use Rattle.theory.specs.declared.Setting.{Setting}
 use Rattle.finish.specs.Search.{stands, Ended, FirstOf, NoneOf, Allows, Tries}
 use Rattle.finish.specs.Sound.{JobIs, Logged, Ready, Shown}
-use Rattle.ask.specs.Values.{unbound}
+use Rattle.runs.specs.Values.{unbound}
 use Rattle.ask.specs.Asked.{EndTold}
-use Rattle.ask.specs.Found.{Tabled}
-use Rattle.ask.proofs.Bound.{bears-none}
+use Rattle.runs.specs.Found.{Tabled}
+use Rattle.runs.proofs.Bound.{bears-none}
 use Rattle.finish.specs.Lengths.{Guided}
 use Rattle.finish.specs.Found.{MayBegin, NextTold, OneLength, LengthTold}
 use Rattle.finish.specs.Worth.{Worth}

@@ -15,7 +15,7 @@ use Rattle.theory.specs.Subject.{Subject, worldOf}
 use Rattle.spelling.specs.declared.Digits.the-variants.{Number}
 use Rattle.spelling.specs.Scan.{NumberAt}
 use Rattle.rule.specs.Standing.{Stands}
-use Rattle.ask.specs.Found.{WalkHere}
+use Rattle.runs.specs.Found.{WalkHere}
 use Rattle.finish.specs.Search.{Allows}
 use Rattle.finish.specs.Sound.{JobIs, Node}
 

@@ -9,7 +9,7 @@ use Rattle.meaning.specs.Rule.{Walk, ofWalk, backward}
 use Rattle.meaning.specs.Theory.{World, run, stride}
 use Rattle.theory.specs.Tables.{Describes}
 use Rattle.rule.specs.Standing.{Stands}
-use Rattle.ask.specs.Found.{WalkHere}
+use Rattle.runs.specs.Found.{WalkHere}
 
 -- the table is one of so many actions
 pub record Table (actions : ℕ) (masks : List ℕ) : Type 0 where

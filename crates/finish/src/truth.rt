@@ -4,7 +4,7 @@ ghost use mathlib.Core.Path.{_≡_};
 ghost use mathlib.Core.Bool.{false, cond, _&&_, _||_};
 ghost use Prim.Native.Nat.{_+_, _<_};
 ghost use lib.ListN.{length, getD};
-ghost use Rattle.ask.specs.Found.{TestHere};
+ghost use Rattle.runs.specs.Found.{TestHere};
 ghost use Rattle.finish.specs.Lengths.{Lacks, MayTold};
 use rule::ends::ENDS_ROOM;
 use spelling::Digits;

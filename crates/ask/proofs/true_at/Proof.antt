@@ -3,9 +3,8 @@ use mathlib.Core.Path.{refl}
 use borrow.Author.Needs.{needs}
 use denote.Ref.{now}
 use Rattle.rule.specs.Standing.{Ends}
-use Rattle.ask.proofs.Calls.{ends-marked}
 use Rattle.ask.proofs.Asking.{known-short}
-use Rattle.ask.proofs.Answering.{test-first, test-told}
+use Rattle.ask.proofs.Answering.{ends-marked, test-first, test-told}
 use Rattle.ask.proofs.true_at.Statement.{statement}
 use Rattle.ask.proofs.true_at.Tie as tie
 

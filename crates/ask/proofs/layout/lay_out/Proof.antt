@@ -1,6 +1,6 @@
 -- `ask::layout::lay_out` meets its contract: what filling the table of ends and transposing the log ensure.
 use borrow.Author.Needs.{needs}
-use Rattle.ask.proofs.Calls.{ends-marked}
+use Rattle.ask.proofs.Answering.{ends-marked}
 use Rattle.ask.proofs.layout.lay_out.Statement.{statement}
 use Rattle.ask.proofs.layout.lay_out.Tie as tie
 

@@ -4,9 +4,9 @@ use native.Mathlib.Omega.{arith}
 use denote.Ref.{now}
 use lib.ListN.{length}
 use Rattle.meaning.specs.Lengths.{allows}
-use Rattle.ask.specs.Values.{unbound}
-use Rattle.ask.specs.Found.{Tabled}
-use Rattle.ask.proofs.Bound.{bears-none}
+use Rattle.runs.specs.Values.{unbound}
+use Rattle.runs.specs.Found.{Tabled}
+use Rattle.runs.proofs.Bound.{bears-none}
 use Rattle.theory.specs.Subject.{subjectOf, worldOf}
 use Rattle.finish.proofs.LeftOut.{asked-able, asked-next}
 use Rattle.finish.proofs.tries.tries.Statement.{statement}

@@ -6,7 +6,7 @@ use borrow.Author.Needs.{needs}
 use borrow.Fn.Kinds.{In}
 use borrow.Fn.PlainCycle.{Measures, is, falls, and}
 use Rattle.rule.proofs.Spread.{within}
-use Rattle.ask.proofs.Calls.{neg-part, both-first, both-second, exists-part}
+use Rattle.runs.proofs.Calls.{neg-part, both-first, both-second, exists-part}
 use Rattle.finish.proofs.May.{always-may, on-may, off-may, neg-may, both-may, exists-may, some-may}
 use Rattle.finish.proofs.truth.may_be.Reads as reads
 use Rattle.finish.proofs.truth.may_be.Kinds as kinds

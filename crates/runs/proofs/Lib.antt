@@ -1,0 +1,15 @@
+pub mod Keeping
+pub mod Image
+pub mod Arms
+pub mod Calls
+pub mod Leaf
+pub mod Seen
+pub mod Bound
+pub mod Found
+pub mod Rounds
+pub mod Chosen
+pub mod Loops
+pub mod Asked
+pub mod Heard
+pub mod Signs
+pub mod Runs

@@ -1,0 +1,5 @@
+pub mod Image
+pub mod Values
+pub mod Found
+pub mod Slots
+pub mod Run
