@@ -17,9 +17,9 @@ use Rattle.meaning.specs.Refusal.{Accepted}
 use Rattle.positions.specs.declared.PositionSet.{PositionSet}
 use Rattle.positions.specs.Positions.{holds}
 use Rattle.theory.specs.Subject.{Subject, countsOf, worldOf}
-use Rattle.rule.specs.Ends.{FillOutcome}
-use Rattle.rule.specs.Standing.{Stands, Ends}
-use Rattle.rule.proofs.Widths.{ends-told}
+use Rattle.grammar.specs.Ends.{FillOutcome}
+use Rattle.grammar.specs.Standing.{Stands, Ends}
+use Rattle.grammar.proofs.Widths.{ends-told}
 use Rattle.runs.specs.Image.{UpTo}
 use Rattle.runs.specs.Values.{unbound}
 use Rattle.runs.specs.Found.{WalkHere, TestHere, Tabled, WalkFound, TestFound}

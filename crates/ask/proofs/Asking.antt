@@ -16,7 +16,7 @@ use Rattle.theory.specs.Subject.{Subject, Readable, countsOf}
 use Rattle.theory.specs.Rows.{worldRows}
 use Rattle.theory.proofs.Reading.{checked, readable}
 use Rattle.rule.specs.Outcome.{textRows, ruleRows}
-use Rattle.rule.specs.Standing.{Stands}
+use Rattle.grammar.specs.Standing.{Stands}
 use Rattle.ask.specs.Rows.{timeRows, askRows}
 use Rattle.ask.specs.Verdict.{SoundTest}
 

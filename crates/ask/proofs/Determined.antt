@@ -19,7 +19,7 @@ use Rattle.meaning.proofs.Reach.{reached-as-unique}
 use Rattle.meaning.proofs.Refusal.{answered-determined}
 use Rattle.laws.proofs.Truth.{same-truth}
 use Rattle.theory.specs.Subject.{Subject, countsOf, worldOf}
-use Rattle.theory.specs.Tables.{Describes}
+use Rattle.tables.specs.Tables.{Describes}
 use Rattle.refusal.proofs.Numbers.{one-number, some-number}
 use Rattle.ask.specs.Asked.{EndTold, AskTold}
 use Rattle.runs.specs.Values.{unbound}

@@ -10,7 +10,7 @@ use Rattle.meaning.specs.Theory.{World}
 use Rattle.meaning.specs.Rule.{Walk, ofWalk}
 use Rattle.meaning.specs.Leads.{Leads}
 use Rattle.meaning.specs.Asks.{AsksAt}
-use Rattle.rule.specs.Standing.{Stands}
+use Rattle.grammar.specs.Standing.{Stands}
 use Rattle.runs.specs.Values.{unbound}
 use Rattle.runs.specs.Found.{Tabled}
 

@@ -4,8 +4,8 @@ use Prim.Native.Nat.{ℕ, _+_}
 use lib.ListN.{replicate}
 use Rattle.meaning.specs.Limits.{textLimit}
 use Rattle.theory.specs.Subject.{Subject, worldOf}
-use Rattle.theory.specs.Tables.{Describes}
-use Rattle.rule.specs.Standing.{Ends}
+use Rattle.tables.specs.Tables.{Describes}
+use Rattle.grammar.specs.Standing.{Ends}
 
 -- a table of ends with nothing in it
 abbrev pub noEnds : List ℕ

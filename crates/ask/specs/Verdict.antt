@@ -11,7 +11,7 @@ use Rattle.meaning.specs.Rule.{Test, ofTest, testKind, Opens}
 use Rattle.meaning.specs.Leads.{Holds}
 use Rattle.meaning.specs.Refusal.{Accepted, Answered}
 use Rattle.theory.specs.Subject.{Subject, countsOf, worldOf}
-use Rattle.theory.specs.Tables.{Describes}
+use Rattle.tables.specs.Tables.{Describes}
 use Rattle.theory.specs.declared.Counts.{Counts}
 use Rattle.rule.specs.Outcome.{textRows}
 use Rattle.ask.specs.Rows.{askRows}

@@ -4,9 +4,9 @@ ghost use Rattle.meaning.specs.Lengths.{allows};
 ghost use Rattle.runs.specs.Found.{WalkHere};
 ghost use Rattle.ask.specs.Asked.{EndTold, AskTold};
 use evaluator::run;
+use grammar::ends::ENDS_ROOM;
 use positions::PositionSet;
-use rule::ends::ENDS_ROOM;
-use theory::tables::ROWS;
+use tables::ROWS;
 
 // The job leads from 0 to the log's end.
 pub fn ended(

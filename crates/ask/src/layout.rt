@@ -5,11 +5,11 @@ ghost use lib.ListN.{length};
 ghost use Rattle.meaning.specs.Limits.{textLimit};
 ghost use Rattle.theory.specs.Subject.{subjectOf, Readable};
 ghost use Rattle.ask.specs.LaidOut.{noEnds, LaidOut};
-use rule::ends::ENDS_ROOM;
-use rule::ends::fill_ends;
+use grammar::ends::ENDS_ROOM;
+use grammar::ends::fill_ends;
+use tables::ROWS;
+use tables::transpose;
 use theory::Setting;
-use theory::tables::ROWS;
-use theory::tables::transpose;
 
 // Both tables are written whole; that of ends is lent empty.
 pub(crate) fn lay_out(

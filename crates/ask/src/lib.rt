@@ -13,16 +13,16 @@ mod layout; // layout.rt: what the evaluator reads of a question
 
 use checks::check;
 use evaluator::run;
+use grammar::ends::ENDS_ROOM;
+use grammar::ends::fill_ends;
 use layout::lay_out;
 use positions::PositionSet;
 use refusal::Refusal;
 use rule::Kind;
-use rule::ends::ENDS_ROOM;
-use rule::ends::fill_ends;
+use tables::ROWS;
+use tables::transpose;
 use theory::Check;
 use theory::Setting;
-use theory::tables::ROWS;
-use theory::tables::transpose;
 
 // What `reach` answers: the set of positions with bit q for position q, their count and the earliest.
 pub enum ReachAnswer {

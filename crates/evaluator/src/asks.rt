@@ -19,14 +19,14 @@ use crate::slots::kept;
 use crate::values::rebound;
 use crate::values::turns;
 use crate::values::wide;
+use grammar::ends::ENDS_ROOM;
 use positions::PositionSet;
-use rule::ends::ENDS_ROOM;
 use steps::letters::VARS;
 use steps::letters::place_of;
 use steps::letters::value_of;
 use steps::step;
+use tables::ROWS;
 use theory::ACTION_LIMIT;
-use theory::tables::ROWS;
 
 // What a pass over a walk finds: the positions that it leads to, and the actions that it asks for, bit a for action a.
 pub struct Pass {

@@ -15,16 +15,16 @@ use crate::slots::kept;
 use crate::values::rebound;
 use crate::values::turns;
 use crate::values::wide;
+use grammar::ends::ENDS_ROOM;
 use positions::PositionSet;
-use rule::ends::ENDS_ROOM;
 use steps::letters::VARS;
 use steps::letters::place_of;
 use steps::step::leaf;
 use steps::step::row;
 use steps::step::sum_row;
+use tables::FLUENT_ROWS;
+use tables::ROWS;
 use theory::FLUENT_LIMIT;
-use theory::tables::FLUENT_ROWS;
-use theory::tables::ROWS;
 
 // Where the second of two parts begins: behind the first, which stands at the next place.
 pub(crate) fn second(ends: &[u8], at: usize) -> usize

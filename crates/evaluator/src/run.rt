@@ -9,9 +9,9 @@ use crate::asks;
 use crate::evaluator;
 use crate::values::end_of;
 use crate::values::none_bound;
+use grammar::ends::ENDS_ROOM;
 use positions::PositionSet;
-use rule::ends::ENDS_ROOM;
-use theory::tables::ROWS;
+use tables::ROWS;
 
 // Whether slots are worth lending: a star is inside a star, and not right behind it, or a `?` is inside a star or inside the test of a `?`. Otherwise no sign is met twice with the same ground.
 // An answer is right with slots and without.

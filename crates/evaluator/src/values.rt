@@ -4,10 +4,10 @@ ghost use mathlib.Core.Logic.{_⊎_};
 ghost use mathlib.Core.Bool.{true, false};
 ghost use Prim.Native.Nat.{_≤_, _<_};
 ghost use lib.ListN.{length, getD, set};
-ghost use Rattle.rule.specs.Standing.{Ends};
-ghost use Rattle.rule.specs.Letters.{variables};
+ghost use Rattle.grammar.specs.Standing.{Ends};
+ghost use Rattle.grammar.specs.Letters.{variables};
 ghost use Rattle.runs.specs.Values.{domainIn, unbound, BinderHere, Clean, Passed, Turns};
-use rule::ends::ENDS_ROOM;
+use grammar::ends::ENDS_ROOM;
 use steps::letters::VARS;
 
 const DOMAIN: usize = 4;

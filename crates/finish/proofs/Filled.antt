@@ -10,8 +10,8 @@ use Rattle.meaning.specs.Limits.{textLimit}
 use Rattle.meaning.specs.Rule.{Walk, walkText, ofWalk}
 use Rattle.meaning.specs.Lengths.{Reaching, allows}
 use Rattle.theory.specs.Subject.{Subject, countsOf, tableMasks, worldOf}
-use Rattle.rule.specs.Standing.{Stands}
-use Rattle.rule.proofs.Spread.{inside}
+use Rattle.grammar.specs.Standing.{Stands}
+use Rattle.grammar.proofs.Spread.{inside}
 use Rattle.finish.specs.Search.{stands}
 use Rattle.finish.specs.Lengths.{Closed, BeforeTold, FillHere, FollowTold}
 use Rattle.finish.proofs.Gained.{closed-none}

@@ -15,8 +15,8 @@ use Rattle.meaning.specs.Limits.{textLimit}
 use Rattle.meaning.specs.Rule.{Walk, act, undo, next, prev, seq, alt, star, check, conv, pick, plain, plus, walkText, ofWalk}
 use Rattle.meaning.specs.Lengths.{Inside, Longer, Measured, Grown}
 use Rattle.meaning.proofs.Measured.{or-left, or-right, measured-none, measured-wide}
-use Rattle.rule.specs.Standing.{Ends}
-use Rattle.rule.proofs.Spread.{Spread, spread, act-at, undo-at, next-at, prev-at, seq-at, alt-at, star-at, check-at, conv-at, sum-act-at, sum-undo-at, pick-at, within}
+use Rattle.grammar.specs.Standing.{Ends}
+use Rattle.grammar.proofs.Spread.{Spread, spread, act-at, undo-at, next-at, prev-at, seq-at, alt-at, star-at, check-at, conv-at, sum-act-at, sum-undo-at, pick-at, within}
 use Rattle.runs.proofs.Calls.{end-stands, NoSign}
 use Rattle.finish.specs.Lengths.{Closed, Gained, BeforeHere, BeforeTold, MayTold, noLengths}
 

@@ -15,9 +15,9 @@ use Rattle.meaning.specs.Leads.{Holds}
 use Rattle.meaning.specs.Lengths.{Turning}
 use Rattle.spelling.specs.declared.Digits.the-variants.{Number}
 use Rattle.spelling.specs.Scan.{NumberAt}
-use Rattle.rule.proofs.Numbers.{number-tens, number-ones}
-use Rattle.rule.specs.Standing.{Ends}
-use Rattle.rule.proofs.Spread.{Spread, spread, always-at, fluent-at, neg-at, both-at, exists-at}
+use Rattle.grammar.proofs.Numbers.{number-tens, number-ones}
+use Rattle.grammar.specs.Standing.{Ends}
+use Rattle.grammar.proofs.Spread.{Spread, spread, always-at, fluent-at, neg-at, both-at, exists-at}
 use Rattle.runs.proofs.Calls.{end-stands}
 use Rattle.finish.specs.Lengths.{Lacks, Is, MayTold}
 

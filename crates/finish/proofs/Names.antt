@@ -7,9 +7,9 @@ use native.Mathlib.Omega.{arith}
 use lib.ListN.{length, getD}
 use Rattle.meaning.specs.Rule.{Walk, Test, Rule, act, undo, next, prev, seq, alt, star, check, conv, pick, always, fluent, neg, both, diamond, exists, Name, plain}
 use Rattle.meaning.specs.Rule.{ofTest, ofWalk, walkText, testText, walkNames, testNames}
-use Rattle.rule.specs.Standing.{Stands}
-use Rattle.rule.proofs.Spread.{Spread, spread, within, act-at, undo-at, next-at, prev-at, seq-at, alt-at, star-at, check-at, conv-at}
-use Rattle.rule.proofs.Spread.{always-at, fluent-at, neg-at, both-at, diamond-at, sum-act-at, sum-undo-at, pick-at, sum-fluent-at, exists-at}
+use Rattle.grammar.specs.Standing.{Stands}
+use Rattle.grammar.proofs.Spread.{Spread, spread, within, act-at, undo-at, next-at, prev-at, seq-at, alt-at, star-at, check-at, conv-at}
+use Rattle.grammar.proofs.Spread.{always-at, fluent-at, neg-at, both-at, diamond-at, sum-act-at, sum-undo-at, pick-at, sum-fluent-at, exists-at}
 use Rattle.finish.specs.Worth.{Behind, Sum}
 
 module _ (bytes : List ℕ) (f g : Name → ℕ) (acts : (at n : ℕ) → at < length bytes → Behind bytes 97 114 at n → f (plain n) ≡ 0)

@@ -19,8 +19,8 @@ use Rattle.meaning.specs.Limits.{moreLimit}
 use Rattle.meaning.specs.Rule.{Walk, star, walkText, ofWalk}
 use Rattle.meaning.specs.Lengths.{Inside, Longer, Measured, Grown}
 use Rattle.meaning.proofs.Measured.{or-left, or-right, or-inside, measured-wide, measured-both}
-use Rattle.rule.specs.Standing.{Stands}
-use Rattle.rule.proofs.Spread.{Spread, spread, star-at}
+use Rattle.grammar.specs.Standing.{Stands}
+use Rattle.grammar.proofs.Spread.{Spread, spread, star-at}
 use Rattle.finish.specs.Lengths.{Closed, Apart, Gained, BeforeTold}
 use Rattle.finish.proofs.Gained.{closed-apart, set-grown}
 

@@ -10,7 +10,7 @@ use Rattle.meaning.specs.Limits.{places}
 use Rattle.meaning.specs.Finish.{First, None}
 use Rattle.theory.specs.Subject.{subjectOf, worldOf}
 use Rattle.theory.specs.declared.Setting.{Setting}
-use Rattle.rule.specs.Standing.{Ends}
+use Rattle.grammar.specs.Standing.{Ends}
 use Rattle.finish.specs.Sound.{Ready, Wanted}
 use Rattle.finish.specs.Found.{FinishTold, SoughtTold}
 use Rattle.finish.specs.declared.search.Found.the-variants.{At, Nothing}

@@ -10,7 +10,7 @@ use lib.Seq.{length-take-le}
 use Rattle.meaning.specs.Limits.{logLimit, moreLimit}
 use Rattle.meaning.specs.Theory.{World, stateAt}
 use Rattle.meaning.proofs.Theory.{state-end}
-use Rattle.theory.specs.Tables.{Describes}
+use Rattle.tables.specs.Tables.{Describes}
 use Rattle.meaning.specs.Rule.{Walk}
 use Rattle.theory.specs.Subject.{subjectOf, worldOf}
 use Rattle.theory.specs.declared.Setting.{Setting}

@@ -22,8 +22,8 @@ use Rattle.meaning.specs.Leads.{Leads}
 use Rattle.meaning.proofs.Theory.{run-append, state-end}
 use Rattle.meaning.specs.Lengths.{allows}
 use Rattle.theory.specs.Subject.{subjectOf, tableMasks, worldOf}
-use Rattle.theory.specs.Tables.{Describes, Toggled}
-use Rattle.theory.proofs.Toggled.{toggled-on, toggled-off}
+use Rattle.tables.specs.Tables.{Describes, Toggled}
+use Rattle.tables.proofs.Toggled.{toggled-on, toggled-off}
 use Rattle.theory.specs.declared.Setting.{Setting}
 use Rattle.finish.specs.Search.{stands, Ended, FirstOf, NoneOf, Allows, Tries}
 use Rattle.finish.specs.Sound.{JobIs, Logged, Ready, Shown}

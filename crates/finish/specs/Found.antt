@@ -13,7 +13,7 @@ use Rattle.meaning.specs.Rule.{Walk}
 use Rattle.meaning.specs.Asks.{AsksAt}
 use Rattle.meaning.specs.Finish.{First, None}
 use Rattle.theory.specs.Subject.{Subject, countsOf, subjectOf, tableMasks, worldOf}
-use Rattle.theory.specs.Tables.{Describes}
+use Rattle.tables.specs.Tables.{Describes}
 use Rattle.theory.specs.declared.Setting.{Setting}
 use Rattle.finish.specs.Search.{stands, FirstOf, NoneOf}
 use Rattle.finish.specs.Sound.{JobIs}

@@ -14,7 +14,7 @@ use Rattle.meaning.specs.Lengths.{Turning, Measured, Grown}
 use Rattle.theory.specs.Subject.{Subject, worldOf}
 use Rattle.spelling.specs.declared.Digits.the-variants.{Number}
 use Rattle.spelling.specs.Scan.{NumberAt}
-use Rattle.rule.specs.Standing.{Stands}
+use Rattle.grammar.specs.Standing.{Stands}
 use Rattle.runs.specs.Found.{WalkHere}
 use Rattle.finish.specs.Search.{Allows}
 use Rattle.finish.specs.Sound.{JobIs, Node}

@@ -7,8 +7,8 @@ use lib.ListN.{length, getD, take}
 use Rattle.meaning.specs.Limits.{actionLimit, logLimit, places, textLimit, moreLimit}
 use Rattle.meaning.specs.Rule.{Walk, ofWalk, backward}
 use Rattle.meaning.specs.Theory.{World, run, stride}
-use Rattle.theory.specs.Tables.{Describes}
-use Rattle.rule.specs.Standing.{Stands}
+use Rattle.tables.specs.Tables.{Describes}
+use Rattle.grammar.specs.Standing.{Stands}
 use Rattle.runs.specs.Found.{WalkHere}
 
 -- the table is one of so many actions

@@ -13,7 +13,7 @@ ghost use Rattle.finish.specs.Sound.{Table};
 ghost use Rattle.finish.specs.Lengths.{BeforeHere, BeforeTold, FillHere, FollowTold};
 use crate::truth::may_be;
 use crate::truth::second;
-use rule::ends::ENDS_ROOM;
+use grammar::ends::ENDS_ROOM;
 use theory::STRIDE;
 use theory::Setting;
 use theory::log;

@@ -15,10 +15,10 @@ mod standins; // standins.rt: the actions that need not be tried
 mod search; // search.rt: the search itself
 mod tries; // tries.rt: the actions to try next
 
+use grammar::ends::ENDS_ROOM;
+use grammar::ends::fill_ends;
 use positions::PositionSet;
 use refusal::Refusal;
-use rule::ends::ENDS_ROOM;
-use rule::ends::fill_ends;
 use search::Found;
 use theory::Check;
 use theory::Setting;

@@ -13,14 +13,14 @@ use crate::follow::fill;
 use crate::standins::worth;
 use crate::tries::tries;
 use ask::job;
+use grammar::ends::ENDS_ROOM;
 use positions::PositionSet;
-use rule::ends::ENDS_ROOM;
+use tables::ROWS;
+use tables::toggle;
+use tables::transpose;
 use theory::Setting;
 use theory::log;
 use theory::step;
-use theory::tables::ROWS;
-use theory::tables::toggle;
-use theory::tables::transpose;
 
 // How many actions the first finishing sequence has.
 pub enum Found {

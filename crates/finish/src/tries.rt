@@ -4,12 +4,12 @@ ghost use Rattle.theory.specs.Subject.{subjectOf, worldOf};
 ghost use Rattle.finish.specs.Sound.{Table, Node, Shown};
 ghost use Rattle.finish.specs.Found.{Doable, NextTold};
 use ask::job;
-use rule::ends::ENDS_ROOM;
+use grammar::ends::ENDS_ROOM;
+use tables::ROWS;
+use tables::transpose;
 use theory::Setting;
 use theory::log;
 use theory::step;
-use theory::tables::ROWS;
-use theory::tables::transpose;
 
 // The actions that are possible in this state.
 fn doable(actions: usize, masks: &[u32], state: u32) -> u64

@@ -6,7 +6,7 @@ ghost use Prim.Native.Nat.{_+_, _<_};
 ghost use lib.ListN.{length, getD};
 ghost use Rattle.runs.specs.Found.{TestHere};
 ghost use Rattle.finish.specs.Lengths.{Lacks, MayTold};
-use rule::ends::ENDS_ROOM;
+use grammar::ends::ENDS_ROOM;
 use spelling::Digits;
 use spelling::scan::two_digits;
 use theory::FLUENT_LIMIT;

@@ -5,11 +5,11 @@ use mathlib.Core.List.{List, _∷_, _++_}
 use Prim.Native.Nat.{ℕ, _+_}
 use lib.ListN.{length, getD, set}
 use Rattle.meaning.specs.Rule.{Walk, ofWalk, walkText}
-use Rattle.rule.specs.declared.signs.Sign.the-variants.{Step, NamedStep, OverWalk, OverTest, TwoWalks, SumStep, SomeWalk}
-use Rattle.rule.specs.Signs.{signOf}
-use Rattle.rule.specs.Standing.{Stands, Ends}
-use Rattle.rule.proofs.SignTable.{SignIs, sign-is, act-sign, undo-sign, next-sign, prev-sign, seq-sign, alt-sign, star-sign, conv-sign, check-sign, sum-act-sign, sum-undo-sign, pick-sign}
-use Rattle.rule.proofs.Spread.{Spread, spread, act-at, undo-at, next-at, prev-at, seq-at, alt-at, star-at, check-at, conv-at, sum-act-at, sum-undo-at, pick-at}
+use Rattle.grammar.specs.declared.signs.Sign.the-variants.{Step, NamedStep, OverWalk, OverTest, TwoWalks, SumStep, SomeWalk}
+use Rattle.grammar.specs.Signs.{signOf}
+use Rattle.grammar.specs.Standing.{Stands, Ends}
+use Rattle.grammar.proofs.SignTable.{SignIs, sign-is, act-sign, undo-sign, next-sign, prev-sign, seq-sign, alt-sign, star-sign, conv-sign, check-sign, sum-act-sign, sum-undo-sign, pick-sign}
+use Rattle.grammar.proofs.Spread.{Spread, spread, act-at, undo-at, next-at, prev-at, seq-at, alt-at, star-at, check-at, conv-at, sum-act-at, sum-undo-at, pick-at}
 use Rattle.normal.specs.declared.rewrite.Parts.{Parts}
 use Rattle.normal.specs.Place.{facing, Written, WalkWritten, TestWritten, NumberWritten, LetterWritten}
 use Rattle.normal.specs.Sign.{facingSign, swaps, inOrder}

@@ -10,12 +10,12 @@ use Rattle.meaning.specs.Limits.{textLimit}
 use Rattle.meaning.specs.Rule.{Walk, Test, ofTest, ofWalk, walkText, testText, other}
 use Rattle.meaning.specs.Normal.{normalTest}
 use Rattle.meaning.proofs.Rewriting.{normal-figures, turned-figures, test-figures}
-use Rattle.rule.specs.declared.signs.Sign.the-variants.{NamedStep, OverWalk, OverTest, TwoWalks, NamedFluent, Denial, TwoTests, WalkThenTest, SumStep, SomeWalk, SumFluent, SomeTest}
-use Rattle.rule.specs.Signs.{signOf}
-use Rattle.rule.specs.Standing.{Stands}
-use Rattle.rule.proofs.SignTable.{SignIs, sign-is, act-sign, undo-sign, seq-sign, alt-sign, star-sign, conv-sign, check-sign, fluent-sign, neg-sign, both-sign, diamond-sign, sum-act-sign, sum-undo-sign, pick-sign, sum-fluent-sign, exists-sign}
-use Rattle.rule.proofs.Spread.{Spread, spread, some-text, inside, within}
-use Rattle.rule.proofs.Spread.{act-at, undo-at, seq-at, alt-at, star-at, check-at, conv-at, fluent-at, neg-at, both-at, diamond-at, sum-act-at, sum-undo-at, pick-at, sum-fluent-at, exists-at}
+use Rattle.grammar.specs.declared.signs.Sign.the-variants.{NamedStep, OverWalk, OverTest, TwoWalks, NamedFluent, Denial, TwoTests, WalkThenTest, SumStep, SomeWalk, SumFluent, SomeTest}
+use Rattle.grammar.specs.Signs.{signOf}
+use Rattle.grammar.specs.Standing.{Stands}
+use Rattle.grammar.proofs.SignTable.{SignIs, sign-is, act-sign, undo-sign, seq-sign, alt-sign, star-sign, conv-sign, check-sign, fluent-sign, neg-sign, both-sign, diamond-sign, sum-act-sign, sum-undo-sign, pick-sign, sum-fluent-sign, exists-sign}
+use Rattle.grammar.proofs.Spread.{Spread, spread, some-text, inside, within}
+use Rattle.grammar.proofs.Spread.{act-at, undo-at, seq-at, alt-at, star-at, check-at, conv-at, fluent-at, neg-at, both-at, diamond-at, sum-act-at, sum-undo-at, pick-at, sum-fluent-at, exists-at}
 use Rattle.normal.specs.declared.rewrite.Parts.{Parts}
 use Rattle.normal.specs.Place.{WalkToWrite, TestToWrite, NumberHere, LetterHere, facing, WalkWritten, TestWritten, NumberWritten, LetterWritten}
 use Rattle.normal.specs.Sign.{inOrder}

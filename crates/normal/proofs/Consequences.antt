@@ -19,7 +19,7 @@ use Rattle.meaning.proofs.Refusal.{refused-not-accepted, passes, accepts, not-f
 use Rattle.meaning.proofs.Rewriting.{rule-figures, rule-opens, rule-twice, rule-job, normal-kept, test-kept}
 use Rattle.rule.specs.Outcome.{Spelled, With, ruleRows}
 use Rattle.rule.proofs.Outcomes.{Known, accepted-known}
-use Rattle.rule.proofs.Spread.{some-text}
+use Rattle.grammar.proofs.Spread.{some-text}
 use Rattle.theory.specs.declared.Counts.{Counts}
 use Rattle.normal.specs.Answer.{normalText, outputRows, normalRows, NormalWritten, NormalAnswered}
 use Rattle.normal.proofs.Variables.{rule-free, rule-varies}

@@ -5,12 +5,12 @@ use mathlib.Core.List.{List}
 use Prim.Native.Nat.{ℕ, _+_}
 use lib.ListN.{length, getD}
 use Rattle.meaning.specs.Rule.{Walk, Test, Rule, ofTest, ofWalk, text}
-use Rattle.rule.specs.declared.signs.Sign.{Sign}
-use Rattle.rule.specs.declared.signs.Sign.the-variants.{TwoWalks, WalkThenTest}
-use Rattle.rule.specs.Signs.{signOf}
-use Rattle.rule.specs.Standing.{Stands, Ends}
+use Rattle.grammar.specs.declared.signs.Sign.{Sign}
+use Rattle.grammar.specs.declared.signs.Sign.the-variants.{TwoWalks, WalkThenTest}
+use Rattle.grammar.specs.Signs.{signOf}
+use Rattle.grammar.specs.Standing.{Stands, Ends}
 use Rattle.rule.proofs.Answers.{NoWalk, NoTest}
-use Rattle.rule.proofs.Spread.{Spread, spread, act-at, undo-at, next-at, prev-at, seq-at, alt-at, star-at, check-at, conv-at, always-at, fluent-at, neg-at, both-at, diamond-at, sum-act-at, sum-undo-at, pick-at, sum-fluent-at, exists-at}
+use Rattle.grammar.proofs.Spread.{Spread, spread, act-at, undo-at, next-at, prev-at, seq-at, alt-at, star-at, check-at, conv-at, always-at, fluent-at, neg-at, both-at, diamond-at, sum-act-at, sum-undo-at, pick-at, sum-fluent-at, exists-at}
 
 -- where a walk stands, its sign is none but a walk's; a test's likewise
 of-walk : {bytes : List ℕ} {at b : ℕ} {x : Walk} {s : Sign} → Spread bytes at b (ofWalk x) → s ≡ signOf b → NoWalk s → ⊥

@@ -7,11 +7,11 @@ use Prim.Native.Nat.{ℕ, _+_}
 use lib.ListN.{getD, set}
 use Rattle.meaning.specs.Rule.{Test, ofTest, walkText}
 use Rattle.meaning.specs.Normal.{normal, normalTest}
-use Rattle.rule.specs.declared.signs.Sign.the-variants.{Constant, NamedFluent, Denial, TwoTests, WalkThenTest, SumFluent, SomeTest}
-use Rattle.rule.specs.Signs.{signOf}
-use Rattle.rule.specs.Standing.{Stands, Ends}
-use Rattle.rule.proofs.SignTable.{SignIs, sign-is, always-sign, fluent-sign, neg-sign, both-sign, diamond-sign, sum-fluent-sign, exists-sign}
-use Rattle.rule.proofs.Spread.{Spread, spread, always-at, fluent-at, neg-at, both-at, diamond-at, sum-fluent-at, exists-at}
+use Rattle.grammar.specs.declared.signs.Sign.the-variants.{Constant, NamedFluent, Denial, TwoTests, WalkThenTest, SumFluent, SomeTest}
+use Rattle.grammar.specs.Signs.{signOf}
+use Rattle.grammar.specs.Standing.{Stands, Ends}
+use Rattle.grammar.proofs.SignTable.{SignIs, sign-is, always-sign, fluent-sign, neg-sign, both-sign, diamond-sign, sum-fluent-sign, exists-sign}
+use Rattle.grammar.proofs.Spread.{Spread, spread, always-at, fluent-at, neg-at, both-at, diamond-at, sum-fluent-at, exists-at}
 use Rattle.normal.specs.Place.{Written, WalkWritten, TestWritten, NumberWritten, LetterWritten}
 use Rattle.normal.proofs.Arms.{SignWritten}
 use Rattle.normal.proofs.Standing.{behind}

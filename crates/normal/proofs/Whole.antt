@@ -11,9 +11,9 @@ use Rattle.meaning.specs.Limits.{textLimit}
 use Rattle.meaning.specs.Rule.{Walk, Test, Rule, Kind, ofTest, ofWalk, testKind, walkKind, jobKind, Fits, Opens, text}
 use Rattle.refusal.specs.declared.Refusal.{Refusal}
 use Rattle.normal.specs.declared.NormalAnswer.{NormalAnswer}
-use Rattle.rule.specs.Standing.{Stands}
-use Rattle.rule.specs.Ends.{FillOutcome}
-use Rattle.rule.proofs.Widths.{ends-told}
+use Rattle.grammar.specs.Standing.{Stands}
+use Rattle.grammar.specs.Ends.{FillOutcome}
+use Rattle.grammar.proofs.Widths.{ends-told}
 use Rattle.normal.specs.Place.{WalkToWrite, TestToWrite, WalkWritten, TestWritten}
 use Rattle.normal.specs.Answer.{normalText}
 use Rattle.normal.specs.Whole.{ShortRule, SpelledWhole, RuleWritten, WrittenOut}

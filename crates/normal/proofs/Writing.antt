@@ -10,8 +10,8 @@ use lib.Seq.{sets}
 use Rattle.meaning.specs.Rule.{Rule, Variable, text, digits, letter}
 use Rattle.spelling.specs.declared.Digits.the-variants.{Number}
 use Rattle.spelling.specs.Scan.{NumberAt}
-use Rattle.rule.specs.Letters.{Lettered}
-use Rattle.rule.proofs.Numbers.{byte, number-tens, number-ones}
+use Rattle.grammar.specs.Letters.{Lettered}
+use Rattle.grammar.proofs.Numbers.{byte, number-tens, number-ones}
 use Rattle.normal.specs.Place.{Written, NumberWritten, LetterWritten}
 
 -- to write two texts is to write the one and then the other behind it

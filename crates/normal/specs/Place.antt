@@ -9,7 +9,7 @@ use lib.Seq.{sets}
 use Rattle.meaning.specs.Limits.{textLimit}
 use Rattle.meaning.specs.Rule.{Walk, Test, Rule, ofTest, ofWalk, text}
 use Rattle.meaning.specs.Normal.{normal, turned, normalTest}
-use Rattle.rule.specs.Standing.{Stands, Ends}
+use Rattle.grammar.specs.Standing.{Stands, Ends}
 
 -- the text is no longer than a rule's, and the table says where each rule of it ends
 pub record Marked (bytes ends : List ℕ) : Type 0 where

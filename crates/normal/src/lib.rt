@@ -6,11 +6,11 @@ ghost use Rattle.normal.specs.Whole.{ShortRule, SpelledWhole, RuleWritte
 mod write; // write.rt: bytes to the lent output
 mod rewrite; // rewrite.rt: a walk's rewriter and a test's
 
+use grammar::ends::ENDS_ROOM;
+use grammar::ends::fill_ends;
 use refusal::Refusal;
 use rule::Kind;
 use rule::check_rule;
-use rule::ends::ENDS_ROOM;
-use rule::ends::fill_ends;
 use theory::Check;
 use theory::Counts;
 

@@ -4,10 +4,10 @@ ghost use mathlib.Core.Path.{_≡_};
 ghost use Rattle.normal.specs.Sign.{facingSign, swaps, inOrder};
 ghost use Rattle.normal.specs.Place.{WalkToWrite, TestToWrite, NumberHere, LetterHere, WalkWritten, TestWritten, NumberWritten, LetterWritten};
 use super::write::put;
-use rule::ends::ENDS_ROOM;
-use rule::ends::second;
-use rule::signs::Sign;
-use rule::signs::sign_of;
+use grammar::ends::ENDS_ROOM;
+use grammar::ends::second;
+use grammar::signs::Sign;
+use grammar::signs::sign_of;
 
 // Two parts of a sign, in the order in which they are written.
 pub struct Parts {

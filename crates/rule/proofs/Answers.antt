@@ -15,20 +15,22 @@ use Rattle.meaning.proofs.Reading.Shapes.{Got, got, bad, Reader, onward, Shape,
 use Rattle.meaning.proofs.Reading.{readWalk, readTest, readRule, walkSign, testSign, walk-none, test-none, walk-step, test-step, walk-sound, test-sound, read-of-opens, opens-of-read, none-of-bad}
 use Rattle.rule.specs.declared.answer.Facts.{Facts}
 use Rattle.rule.specs.declared.answer.Read.{Read}
-use Rattle.rule.specs.declared.signs.Sign.{Sign}
-use Rattle.rule.specs.declared.signs.Sign.the-variants.{Step, NamedStep, OverWalk, OverTest, TwoWalks, Constant, NamedFluent, Denial, TwoTests, WalkThenTest, SumStep, SomeWalk, SumFluent, SomeTest, Stranger}
-use Rattle.rule.specs.Signs.{signTable, signOf, turnsBack}
+use Rattle.grammar.specs.declared.signs.Sign.{Sign}
+use Rattle.grammar.specs.declared.signs.Sign.the-variants.{Step, NamedStep, OverWalk, OverTest, TwoWalks, Constant, NamedFluent, Denial, TwoTests, WalkThenTest, SumStep, SomeWalk, SumFluent, SomeTest, Stranger}
+use Rattle.grammar.specs.Signs.{signTable, signOf, turnsBack}
 use Rattle.spelling.specs.declared.Digits.{Digits}
 use Rattle.spelling.specs.declared.Digits.the-variants.{Number, Other}
 use Rattle.spelling.specs.Scan.{NumberAt}
 use Rattle.spelling.proofs.TwoDigits.{here}
-use Rattle.rule.specs.declared.letters.Letter.{Letter}
-use Rattle.rule.specs.Letters.{place, LetterAt}
+use Rattle.grammar.specs.declared.letters.Letter.{Letter}
+use Rattle.grammar.specs.Letters.{place, LetterAt}
 use Rattle.rule.specs.Facts.{factsOf, depthIn, endIn, NamedWithin, PlaceWithin, LetterWithin, leafOf, stepOf, fluentOf, letteredOf, aboveOf, boundOf, besideOf, insideOf}
 use Rattle.rule.specs.Read.{ReadAt}
-use Rattle.rule.proofs.Variables.{place-low, letter-read, letter-unread, alone, joined, taken-off}
-use Rattle.rule.proofs.Numbers.{after-part, named-within}
-use Rattle.rule.proofs.SignTable.{
+use Rattle.grammar.proofs.Lettering.{place-low}
+use Rattle.rule.proofs.Variables.{letter-read, letter-unread, alone, joined, taken-off}
+use Rattle.grammar.proofs.Numbers.{after-part}
+use Rattle.rule.proofs.Named.{named-within}
+use Rattle.grammar.proofs.SignTable.{
   Strange,
   SignIs,
   sign-is,
@@ -625,9 +627,6 @@ mutual
 rule-deep : (r : Rule) → Deep (depth r) (text r)
 rule-deep (ofTest t) = test-deep t
 rule-deep (ofWalk w) = walk-deep w
-
-pub text-some : (r : Rule) → 0 < length (text r)
-text-some r = omega (arith, rule-deep r)
 
 -- a rule that is found ends past its place and within the text, and is no deeper than the text is long from there on
 pub record Within (bytes : List ℕ) (at : ℕ) (f : Facts) : Type 0 where

@@ -1,7 +1,4 @@
-pub mod SignTable
 pub mod Variables
-pub mod Numbers
+pub mod Named
 pub mod Answers
 pub mod Outcomes
-pub mod Widths
-pub mod Spread

@@ -27,7 +27,8 @@ use Rattle.rule.specs.Read.{ReadAt}
 use Rattle.rule.specs.Outcome.{Spelled, Unspelled, With, textRows, ruleRows, bytesFrom, PartAt, ReadAnswered}
 use Rattle.rule.specs.Judged.{Fitting, SurveyedAs, Opening, factRows, JudgedAs}
 use Rattle.rule.proofs.Variables.{some-free}
-use Rattle.rule.proofs.Answers.{text-some, found-within}
+use Rattle.rule.proofs.Answers.{found-within}
+use Rattle.grammar.proofs.Spread.{some-text}
 
 -- Two lists with the same numbers, whose sentences hold alike, give the same answer.
 abbrev Alike : List {1} Row → List {1} Row → Type 0
@@ -108,7 +109,7 @@ spelled-once true kind bytes o o′ = unique-reading o o′ .0
 spelled-once false kind bytes o o′ = unique-reading (o .1) (o′ .1) .0
 
 no-rule-in-none : (kind : Kind) (bytes : List ℕ) (r : Rule) (rest : List ℕ) → Opens kind bytes r rest → bytes ≡ [] → ⊥
-no-rule-in-none kind bytes r rest o e = omega (arith, length-is kind 0 bytes r rest o, ap length e, text-some r)
+no-rule-in-none kind bytes r rest o e = omega (arith, length-is kind 0 bytes r rest o, ap length e, some-text r)
 
 -- where they spell one that is allowed, refusal 6 does not apply
 spelled-no-six : (whole : Bool) (kind : Kind) (domain : ℕ) (bytes : List ℕ) (f : Facts) → Opening whole kind domain bytes f → Unspelled whole kind domain bytes → ⊥

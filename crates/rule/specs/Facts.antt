@@ -8,8 +8,8 @@ use Rattle.meaning.specs.Limits.{textLimit, numberLimit, domainLimit}
 use Rattle.meaning.specs.Rule.{Rule, depth, actionsIn, fluentsIn, backwardIn, freeIn, variesIn}
 use Rattle.rule.specs.declared.answer.Facts.{Facts}
 use Rattle.rule.specs.declared.answer.Read.{Read}
-use Rattle.rule.specs.declared.letters.Letter.{Letter}
-use Rattle.rule.specs.Letters.{variables, variableAt}
+use Rattle.grammar.specs.declared.letters.Letter.{Letter}
+use Rattle.grammar.specs.Letters.{variables, variableAt}
 use Rattle.spelling.specs.declared.Digits.{Digits}
 
 -- the variables that stand free: a bit each, in the order of their letters

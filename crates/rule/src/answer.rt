@@ -4,10 +4,10 @@ ghost use mathlib.Core.Bool.{_||_};
 ghost use Prim.Native.Nat.{_^_, _≤_, _<_, max};
 ghost use lib.ListN.{length};
 ghost use Rattle.meaning.specs.Limits.{textLimit};
-ghost use Rattle.rule.specs.Letters.{variables};
+ghost use Rattle.grammar.specs.Letters.{variables};
 ghost use Rattle.rule.specs.Facts.{depthIn, endIn, NamedWithin, PlaceWithin, LetterWithin};
 ghost use Rattle.rule.specs.Facts.{leafOf, stepOf, fluentOf, letteredOf, aboveOf, boundOf, besideOf, insideOf};
-use crate::letters::Letter;
+use grammar::letters::Letter;
 use spelling::Digits;
 
 // What is told of a rule: where it ends, its depth, how many actions and fluents a theory must have to know all that it names, whether a backward sign stands

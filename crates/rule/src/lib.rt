@@ -3,19 +3,13 @@ ghost use mathlib.Core.Bool.{true};
 ghost use Rattle.theory.specs.Check.{Settled};
 ghost use Rattle.rule.specs.Outcome.{kindOf, ruleRows, ReadAnswered};
 
-pub mod signs; // signs.rt: the table of signs
-pub mod letters; // letters.rt: the letters of variables
 mod answer; // answer.rt: the facts of a rule
 mod reader; // reader.rt: a walk's reader and a test's
 mod judge; // judge.rt: which refusal a rule is given
-pub mod ends; // ends.rt: where each rule of a text ends
 
 use judge::Surveyed;
 use theory::Check;
 use theory::Counts;
-
-// "1 to 255 bytes"
-pub const TEXT_LIMIT: usize = 255;
 
 // "A rule is used as a *test*, as a *walk* (questions only) or as a *job* (a walk to be carried out)."
 pub enum Kind {

@@ -14,10 +14,10 @@ use crate::answer::inside;
 use crate::answer::leaf;
 use crate::answer::lettered;
 use crate::answer::step;
-use crate::letters::variable_at;
-use crate::signs::Sign;
-use crate::signs::sign_of;
-use crate::signs::turns;
+use grammar::letters::variable_at;
+use grammar::signs::Sign;
+use grammar::signs::sign_of;
+use grammar::signs::turns;
 use spelling::scan::two_digits;
 
 // The walk that stands at a place of the text.

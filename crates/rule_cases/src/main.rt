@@ -431,7 +431,7 @@ fn depths_of_variables() {
 // In -;a00*n the sequence ends with the text, its first part before the star; past the text the table is left.
 fn table_of_ends() {
     let mut ends = [99u8; 12];
-    rule::ends::fill_ends(b"-;a00*n", &mut ends);
+    grammar::ends::fill_ends(b"-;a00*n", &mut ends);
     verdict(ends[1] == 7, b"the sequence ends at 7");
     verdict(ends[2] == 5, b"its first part ends at 5");
     verdict(ends[5] == 7, b"its second part ends at 7");

@@ -14,7 +14,7 @@ use Rattle.meaning.proofs.Bounds.{leads-within, back-within}
 use Rattle.meaning.proofs.Converse.{back-exchanged}
 use Rattle.meaning.proofs.Normal.{at-places}
 use Rattle.meaning.proofs.Written.{leads-idle, back-idle}
-use Rattle.theory.specs.Tables.{TakenAt}
+use Rattle.tables.specs.Tables.{TakenAt}
 use Rattle.runs.specs.Image.{Set, UpTo, Image, Sifted, Turn, Way, Crossing}
 use Rattle.laws.proofs.Truth.{and-iff}
 use Rattle.runs.proofs.Image.{image-same, always-sifted, not-sifted, both-sifted, some-sifted}

@@ -22,13 +22,13 @@ use Rattle.meaning.proofs.Written.{leads-idle}
 use Rattle.meaning.specs.Limits.{numberLimit}
 use Rattle.spelling.specs.declared.Digits.the-variants.{Number}
 use Rattle.spelling.specs.Scan.{NumberAt}
-use Rattle.theory.proofs.Transposed.{described-bound}
-use Rattle.rule.specs.Letters.{variables, place, Lettered}
-use Rattle.rule.specs.Standing.{Stands, Ends}
-use Rattle.rule.proofs.Numbers.{byte, number-tens, number-ones}
-use Rattle.rule.proofs.Variables.{letter-is, place-low, one-place}
-use Rattle.rule.proofs.Spread.{Spread, spread, act-at, undo-at, next-at, prev-at, seq-at, alt-at, star-at, check-at, conv-at, pick-at}
-use Rattle.rule.proofs.Spread.{always-at, fluent-at, neg-at, both-at, diamond-at, exists-at, sum-act-at, sum-undo-at, sum-fluent-at}
+use Rattle.tables.proofs.Transposed.{described-bound}
+use Rattle.grammar.specs.Letters.{variables, place, Lettered}
+use Rattle.grammar.specs.Standing.{Stands, Ends}
+use Rattle.grammar.proofs.Numbers.{byte, number-tens, number-ones}
+use Rattle.grammar.proofs.Lettering.{letter-is, place-low, one-place}
+use Rattle.grammar.proofs.Spread.{Spread, spread, act-at, undo-at, next-at, prev-at, seq-at, alt-at, star-at, check-at, conv-at, pick-at}
+use Rattle.grammar.proofs.Spread.{always-at, fluent-at, neg-at, both-at, diamond-at, exists-at, sum-act-at, sum-undo-at, sum-fluent-at}
 use Rattle.runs.specs.Values.{valueIn, unbound, Bears, BinderHere, Rebinds, Clean, past, other, skip, Passed, Turns}
 use Rattle.runs.specs.Found.{Tabled}
 use Rattle.runs.proofs.Seen.{seq-long, alt-long, star-long, check-long, conv-long, pick-long, neg-long, both-long, diamond-long, exists-long}

@@ -10,13 +10,13 @@ use lib.ListN.{length, getD, List·getD-eq-default}
 use Rattle.meaning.specs.Rule.{Variable, Walk, Test, Rule, ofWalk, ofTest, text}
 use Rattle.spelling.specs.declared.Digits.the-variants.{Number}
 use Rattle.spelling.specs.Scan.{NumberAt}
-use Rattle.rule.specs.Letters.{Lettered}
-use Rattle.rule.specs.Standing.{Stands, Ends, Leaf}
+use Rattle.grammar.specs.Letters.{Lettered}
+use Rattle.grammar.specs.Standing.{Stands, Ends, Leaf}
 use Rattle.runs.specs.Values.{SumHere, BinderHere}
 use Rattle.runs.specs.Found.{WalkHere, TestHere, LeafHere, Numbered}
-use Rattle.rule.proofs.Spread.{Spread, spread}
-use Rattle.rule.proofs.Spread.{act-at, undo-at, next-at, prev-at, seq-at, alt-at, star-at, check-at, conv-at, always-at, fluent-at, neg-at, both-at, diamond-at}
-use Rattle.rule.proofs.Spread.{sum-act-at, sum-undo-at, pick-at, sum-fluent-at, exists-at, inside}
+use Rattle.grammar.proofs.Spread.{Spread, spread}
+use Rattle.grammar.proofs.Spread.{act-at, undo-at, next-at, prev-at, seq-at, alt-at, star-at, check-at, conv-at, always-at, fluent-at, neg-at, both-at, diamond-at}
+use Rattle.grammar.proofs.Spread.{sum-act-at, sum-undo-at, pick-at, sum-fluent-at, exists-at, inside}
 
 -- Behind a first part that stands at a place, the table has a further place: there stands what stands behind the part.
 module _ {bytes ends : List ℕ} (marked : Ends bytes ends) {i : ℕ} {x : Rule} (first : Stands bytes i x) where

@@ -22,9 +22,9 @@ use Rattle.meaning.specs.Leads.{Leads, Holds, Pick, Exists}
 use Rattle.meaning.specs.Asks.{AsksAt}
 use Rattle.meaning.proofs.Normal.{at-times}
 use Rattle.meaning.proofs.Written.{holds-idle}
-use Rattle.rule.specs.Letters.{place, Lettered}
-use Rattle.rule.specs.Standing.{Stands}
-use Rattle.rule.proofs.Spread.{Spread, spread, pick-at, exists-at}
+use Rattle.grammar.specs.Letters.{place, Lettered}
+use Rattle.grammar.specs.Standing.{Stands}
+use Rattle.grammar.proofs.Spread.{Spread, spread, pick-at, exists-at}
 use Rattle.runs.specs.Image.{Set, UpTo, Image, Sifted, Way}
 use Rattle.runs.specs.Values.{domainIn, Bears, BinderHere, Turns}
 use Rattle.runs.specs.Found.{Tabled}

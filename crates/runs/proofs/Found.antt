@@ -17,11 +17,11 @@ use Rattle.meaning.specs.Leads.{Leads, Holds, stay}
 use Rattle.runs.specs.Image.{Set, UpTo, Image, Sifted, Way}
 use Rattle.runs.specs.Slots.{Outside, Cleared, StarsTo}
 use Rattle.runs.specs.Run.{Ground, start, led, Seen, Told, Covers, Begun, Walked, Tested, WalkKept, TestKept}
-use Rattle.rule.specs.Standing.{Stands, Ends, Leaf}
+use Rattle.grammar.specs.Standing.{Stands, Ends, Leaf}
 use Rattle.runs.specs.Found.{Tabled, WalkHere, LeafFound, TestFound}
 use Rattle.runs.proofs.Image.{sifted-up-to}
 use Rattle.runs.proofs.Arms.{alt-way, conv-way, star-way, star-more, stars-flat, always-keeps, neg-keeps, both-keeps, diamond-keeps}
-use Rattle.rule.proofs.Spread.{Spread, spread, seq-at, alt-at, star-at, conv-at, always-at, neg-at, both-at, diamond-at}
+use Rattle.grammar.proofs.Spread.{Spread, spread, seq-at, alt-at, star-at, conv-at, always-at, neg-at, both-at, diamond-at}
 use Rattle.runs.proofs.Calls.{end-there, NoParts, no-parts, star-part}
 use Rattle.runs.proofs.Keeping.{outside-more, outside-none, outside-then}
 use Rattle.runs.proofs.Leaf.{AllTo, all-to}

@@ -18,8 +18,8 @@ use Rattle.meaning.specs.Rule.{Walk, act, undo, next, prev, seq, alt, star, che
 use Rattle.meaning.specs.Leads.{Leads, stay}
 use Rattle.meaning.specs.Asks.{AsksAt}
 use Rattle.meaning.proofs.Chain.{chain-append}
-use Rattle.rule.specs.Standing.{Stands, Ends}
-use Rattle.rule.proofs.Spread.{Spread, spread, seq-at, alt-at, star-at}
+use Rattle.grammar.specs.Standing.{Stands, Ends}
+use Rattle.grammar.proofs.Spread.{Spread, spread, seq-at, alt-at, star-at}
 use Rattle.runs.specs.Image.{Set}
 use Rattle.runs.specs.Slots.{slot, Outside, Stored, StarsTo}
 use Rattle.runs.specs.Found.{AskedBy}

@@ -14,16 +14,16 @@ use Rattle.meaning.specs.Limits.{fluentLimit, actionLimit, places}
 use Rattle.meaning.specs.Theory.{World, numberIn, stateAt}
 use Rattle.meaning.specs.Rule.{Variable, plain, plus, Walk, Test, ofWalk, ofTest}
 use Rattle.meaning.specs.Leads.{Holds}
-use Rattle.theory.specs.Tables.{actionRows, fluentRows, possibleRow, rowHolds, amongHolds, actionHolds, fluentHolds}
+use Rattle.tables.specs.Tables.{actionRows, fluentRows, possibleRow, rowHolds, amongHolds, actionHolds, fluentHolds}
 use Rattle.runs.specs.Image.{Set, UpTo, Image, Sifted, Turn, Way, Crossing}
 use Rattle.spelling.specs.declared.Digits.the-variants.{Number}
 use Rattle.spelling.specs.Scan.{NumberAt}
-use Rattle.rule.specs.Letters.{Lettered}
-use Rattle.rule.specs.Standing.{Leaf}
+use Rattle.grammar.specs.Letters.{Lettered}
+use Rattle.grammar.specs.Standing.{Leaf}
 use Rattle.runs.specs.Values.{valueIn, SumHere}
 use Rattle.runs.specs.Found.{LeafHere, Numbered, Tabled, LeafFound, TestFound}
 use Rattle.runs.proofs.Arms.{Done, AnyDone, act-image, undo-image, next-image, prev-image, fluent-keeps}
-use Rattle.rule.proofs.Spread.{Spread, spread, act-at, undo-at, next-at, prev-at, seq-at, alt-at, star-at, check-at, conv-at, fluent-at, sum-act-at, sum-undo-at, pick-at, sum-fluent-at}
+use Rattle.grammar.proofs.Spread.{Spread, spread, act-at, undo-at, next-at, prev-at, seq-at, alt-at, star-at, check-at, conv-at, fluent-at, sum-act-at, sum-undo-at, pick-at, sum-fluent-at}
 use Rattle.runs.proofs.Calls.{NoSign, sum-here}
 
 -- the set is the row that the sign there names, among so many from a first one on

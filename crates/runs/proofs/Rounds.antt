@@ -11,8 +11,8 @@ use Rattle.laws.proofs.Truth.{off-on, true-or-false, and-iff, or-iff, implies-i
 use Rattle.meaning.specs.Theory.{World}
 use Rattle.meaning.specs.Rule.{Walk, Test, star, ofWalk, ofTest, walkText, testText}
 use Rattle.meaning.specs.Leads.{Holds, Here, Chain, stay, link}
-use Rattle.rule.specs.Standing.{Stands}
-use Rattle.rule.proofs.Spread.{Spread, spread, star-at, check-at, some-text}
+use Rattle.grammar.specs.Standing.{Stands}
+use Rattle.grammar.proofs.Spread.{Spread, spread, star-at, check-at, some-text}
 use Rattle.runs.specs.Image.{Set, UpTo, Image, Way}
 use Rattle.runs.specs.Found.{Tabled}
 use Rattle.runs.specs.Slots.{slot, Outside, Stored}

@@ -6,7 +6,7 @@ use Prim.Native.Nat.{ℕ, _+_}
 use lib.ListN.{getD}
 use Rattle.meaning.specs.Theory.{World}
 use Rattle.meaning.specs.Rule.{Walk, ofWalk}
-use Rattle.rule.specs.Standing.{Stands}
+use Rattle.grammar.specs.Standing.{Stands}
 use Rattle.runs.specs.Image.{Set, UpTo}
 use Rattle.runs.specs.Found.{Tabled, WalkFound, TestFound, AskFound}
 use Rattle.runs.specs.Run.{start, Begun, WalkKept, TestKept, AskKept}

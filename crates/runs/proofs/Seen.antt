@@ -15,8 +15,8 @@ use Rattle.meaning.specs.Rule.{Variable, Walk, Test, act, undo, next, prev, seq
 use Rattle.meaning.specs.Rule.{testKind, Opens}
 use Rattle.meaning.proofs.Reading.{unique-reading}
 use Rattle.meaning.specs.Leads.{Holds}
-use Rattle.rule.specs.Standing.{Stands}
-use Rattle.rule.proofs.Spread.{Spread, spread, seq-at, alt-at, star-at, conv-at, always-at, fluent-at, neg-at, both-at, diamond-at, sum-fluent-at, exists-at}
+use Rattle.grammar.specs.Standing.{Stands}
+use Rattle.grammar.proofs.Spread.{Spread, spread, seq-at, alt-at, star-at, conv-at, always-at, fluent-at, neg-at, both-at, diamond-at, sum-fluent-at, exists-at}
 use Rattle.runs.specs.Image.{Set}
 use Rattle.runs.specs.Slots.{slot, Stored}
 use Rattle.runs.specs.Run.{Ground, led, Lies, Chained, Seen, Told}

@@ -15,12 +15,12 @@ use Rattle.meaning.specs.Rule.{Variable, plain, plus, Walk, Rule, ofWalk}
 use Rattle.runs.specs.Image.{Set}
 use Rattle.spelling.specs.declared.Digits.the-variants.{Number}
 use Rattle.spelling.specs.Scan.{NumberAt}
-use Rattle.rule.specs.Signs.{isOf}
-use Rattle.rule.specs.Letters.{Lettered}
+use Rattle.grammar.specs.Signs.{isOf}
+use Rattle.grammar.specs.Letters.{Lettered}
 use Rattle.runs.specs.Values.{valueIn, LetterHere}
 use Rattle.runs.specs.Found.{Tabled, WalkHere, Numbered, LeafFound, AskedBy, AskFound}
 use Rattle.runs.specs.Run.{Ground, Begun, WalkKept, Heard, Asking, AskKept}
-use Rattle.rule.proofs.Spread.{Spread, spread, act-at, undo-at, next-at, prev-at, seq-at, alt-at, star-at, check-at, conv-at, sum-act-at, sum-undo-at, pick-at}
+use Rattle.grammar.proofs.Spread.{Spread, spread, act-at, undo-at, next-at, prev-at, seq-at, alt-at, star-at, check-at, conv-at, sum-act-at, sum-undo-at, pick-at}
 use Rattle.runs.proofs.Calls.{NoSign, NoParts}
 use Rattle.runs.proofs.Found.{leaf-kept}
 use Rattle.runs.proofs.Heard.{heard-more}

@@ -12,12 +12,12 @@ use Rattle.meaning.specs.Theory.{World}
 use Rattle.meaning.specs.Rule.{Walk, Test, ofWalk, ofTest}
 use Rattle.meaning.specs.Leads.{Holds}
 use Rattle.meaning.specs.Asks.{AsksAt}
-use Rattle.theory.specs.Tables.{Describes}
+use Rattle.tables.specs.Tables.{Describes}
 use Rattle.spelling.specs.declared.Digits.the-variants.{Number}
 use Rattle.spelling.specs.Scan.{NumberAt}
 use Rattle.runs.specs.Values.{Bears}
 use Rattle.runs.specs.Image.{Set, UpTo, Image, Sifted, Way}
-use Rattle.rule.specs.Standing.{Stands, Ends, Leaf}
+use Rattle.grammar.specs.Standing.{Stands, Ends, Leaf}
 
 -- a walk, a test, a walk with no part stands at the place; the table of ends is the text's
 pub record WalkHere (bytes ends : List ℕ) (at : ℕ) : Type 0 where

@@ -11,7 +11,7 @@ use Rattle.meaning.specs.Theory.{World}
 use Rattle.meaning.specs.Rule.{Walk, Test, act, undo, next, prev, seq, alt, star, check, conv, pick, ofWalk, ofTest, walkText, testText}
 use Rattle.meaning.specs.Leads.{Holds}
 use Rattle.meaning.specs.Asks.{AsksAt}
-use Rattle.rule.specs.Standing.{Stands}
+use Rattle.grammar.specs.Standing.{Stands}
 use Rattle.runs.specs.Image.{Set, UpTo, Sifted, Way}
 use Rattle.runs.specs.Slots.{slot, Outside}
 use Rattle.runs.specs.Found.{Tabled}

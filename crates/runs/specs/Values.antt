@@ -10,8 +10,8 @@ use Rattle.meaning.specs.Theory.{World, standsFor}
 use Rattle.meaning.specs.Rule.{Variable, Rule, text, freeIn}
 use Rattle.spelling.specs.declared.Digits.the-variants.{Number}
 use Rattle.spelling.specs.Scan.{NumberAt}
-use Rattle.rule.specs.Letters.{variables, place, Lettered}
-use Rattle.rule.specs.Standing.{Stands}
+use Rattle.grammar.specs.Letters.{variables, place, Lettered}
+use Rattle.grammar.specs.Standing.{Stands}
 
 -- so many values there are
 abbrev pub domainIn : List ℕ → ℕ

@@ -9,10 +9,10 @@ use Rattle.meaning.specs.Rule.{Variable}
 use Rattle.positions.specs.declared.PositionSet.{PositionSet}
 use Rattle.positions.specs.Positions.{holds, Proper}
 use Rattle.positions.proofs.Held.{same-set}
-use Rattle.theory.specs.Tables.{amongHolds}
+use Rattle.tables.specs.Tables.{amongHolds}
 use Rattle.spelling.specs.declared.Digits.the-variants.{Number}
 use Rattle.spelling.specs.Scan.{NumberAt}
-use Rattle.rule.specs.Letters.{Lettered}
+use Rattle.grammar.specs.Letters.{Lettered}
 use Rattle.runs.specs.Image.{UpTo}
 use Rattle.runs.specs.Values.{valueIn, LetterHere, SumHere}
 use Rattle.runs.specs.Found.{Numbered, Tabled, LeafHere, LeafFound}

@@ -3,7 +3,7 @@ ghost use mathlib.Core.Path.{_≡_};
 ghost use Prim.Native.Nat.{_<_};
 ghost use lib.ListN.{length};
 ghost use Rattle.meaning.specs.Rule.{Variable};
-ghost use Rattle.rule.specs.Letters.{variables, place, Lettered};
+ghost use Rattle.grammar.specs.Letters.{variables, place, Lettered};
 ghost use Rattle.runs.specs.Values.{valueIn, LetterHere};
 use crate::step::wide;
 

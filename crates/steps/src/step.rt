@@ -3,21 +3,21 @@ ghost use mathlib.Core.Path.{_≡_};
 ghost use Prim.Native.Nat.{ℕ, _+_, _≤_, _<_};
 ghost use Rattle.meaning.specs.Limits.{places};
 ghost use Rattle.positions.specs.Positions.{holds};
-ghost use Rattle.theory.specs.Tables.{rowCount, amongHolds};
+ghost use Rattle.tables.specs.Tables.{rowCount, amongHolds};
 ghost use Rattle.spelling.specs.declared.Digits.the-variants.{Number};
 ghost use Rattle.spelling.specs.Scan.{NumberAt};
 ghost use Rattle.meaning.specs.Rule.{Variable};
-ghost use Rattle.rule.specs.Letters.{Lettered};
+ghost use Rattle.grammar.specs.Letters.{Lettered};
 ghost use Rattle.runs.specs.Values.{valueIn, SumHere};
 ghost use Rattle.runs.specs.Image.{UpTo, Image, Turn, Crossing};
 ghost use Rattle.runs.specs.Found.{Numbered, LeafHere, LeafFound};
 use crate::letters::VARS;
 use crate::letters::value_of;
 use positions::PositionSet;
+use tables::ACTION_ROWS;
+use tables::POSSIBLE_ROW;
+use tables::ROWS;
 use theory::ACTION_LIMIT;
-use theory::tables::ACTION_ROWS;
-use theory::tables::POSSIBLE_ROW;
-use theory::tables::ROWS;
 
 pub(crate) fn wide(b: u8) -> usize
     ensures { λ r. ⌜ (r ≡ b) × (r < 256) ⌝ }

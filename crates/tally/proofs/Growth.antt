@@ -17,9 +17,9 @@ use Rattle.meaning.specs.Theory.{Possible, World, after, relog, stateAt, stepAt
 use Rattle.meaning.proofs.Theory.{getElem-within, getElem-seam, state-longer, state-logged, state-start, step-cut}
 use Rattle.meaning.proofs.Possible.{possible, possible-tells}
 use Rattle.theory.specs.Subject.{subjectOf, worldOf}
-use Rattle.theory.specs.Tables.{TakenAt}
+use Rattle.tables.specs.Tables.{TakenAt}
 use Rattle.theory.specs.declared.Setting.{Setting}
-use Rattle.theory.proofs.Transposed.{uncounted}
+use Rattle.tables.proofs.Transposed.{uncounted}
 use Rattle.tally.specs.Record.{Last, Times, ImpossibleAt, ActionTold, TallyOf, oneMore, Grown}
 use Rattle.tally.specs.declared.Tally.{Tally}
 use Rattle.tally.proofs.Places.{last-kept, last-moved, times-kept, times-more, last-none, times-none}

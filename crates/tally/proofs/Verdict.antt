@@ -14,7 +14,7 @@ use Rattle.meaning.proofs.Theory.{getElem-getD}
 use Rattle.meaning.proofs.Possible.{possible, possible-tells}
 use Rattle.meaning.proofs.Converse.{converse}
 use Rattle.meaning.specs.Rule.{plain, act, next, seq, star}
-use Rattle.theory.specs.Tables.{TakenAt}
+use Rattle.tables.specs.Tables.{TakenAt}
 use Rattle.tally.specs.Record.{Last, ImpossibleAt}
 use Rattle.tally.specs.Made.{happenedTest}
 use Rattle.tally.proofs.Growth.{taken-within}

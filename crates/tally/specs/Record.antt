@@ -9,7 +9,7 @@ use lib.ListN.{length, getD, set}
 use Rattle.laws.specs.Bit.{countBelow}
 use Rattle.meaning.specs.Limits.{actionLimit, logLimit}
 use Rattle.meaning.specs.Theory.{Masks, Possible, World, after, stateAt}
-use Rattle.theory.specs.Tables.{TakenAt}
+use Rattle.tables.specs.Tables.{TakenAt}
 use Rattle.tally.specs.declared.Tally.{Tally}
 
 -- "possible occurrences" of an action are the steps where it was taken (`TakenAt`). An impossible step is one of the log's at which no action was.

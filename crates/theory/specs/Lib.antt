@@ -4,4 +4,3 @@ pub mod Union
 pub mod Check
 pub mod Answer
 pub mod Possible
-pub mod Tables

@@ -9,7 +9,6 @@ ghost use Rattle.theory.specs.Possible.{verdictGiven, PossibleAnswered};
 pub mod step; // step.rt: one action in one state
 pub mod log; // log.rt: the state after some steps of a log
 pub mod faults; // faults.rt: refusals 3, 4 and 5
-pub mod tables; // tables.rt: the log, transposed
 
 use refusal::Refusal;
 

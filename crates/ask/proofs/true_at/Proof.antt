@@ -2,7 +2,7 @@
 use mathlib.Core.Path.{refl}
 use borrow.Author.Needs.{needs}
 use denote.Ref.{now}
-use Rattle.rule.specs.Standing.{Ends}
+use Rattle.grammar.specs.Standing.{Ends}
 use Rattle.ask.proofs.Asking.{known-short}
 use Rattle.ask.proofs.Answering.{ends-marked, test-first, test-told}
 use Rattle.ask.proofs.true_at.Statement.{statement}

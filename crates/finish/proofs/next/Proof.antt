@@ -3,7 +3,7 @@ use mathlib.Core.Path.{refl, subst}
 use mathlib.Core.Logic.{inl, inr}
 use borrow.Author.Needs.{needs}
 use denote.Ref.{now}
-use Rattle.rule.proofs.Widths.{ends-told}
+use Rattle.grammar.proofs.Widths.{ends-told}
 use Rattle.theory.specs.Subject.{Subject, subjectOf}
 use Rattle.theory.specs.Check.{Settled}
 use Rattle.theory.specs.declared.Check.{Check}

@@ -5,7 +5,7 @@ use native.Mathlib.Omega.{arith}
 use denote.Ref.{now}
 use lib.ListN.{length, take, drop, length-take, length-drop}
 use Rattle.meaning.specs.Limits.{places}
-use Rattle.rule.proofs.Widths.{ends-told}
+use Rattle.grammar.proofs.Widths.{ends-told}
 use Rattle.finish.specs.declared.search.Found.{Found}
 use Rattle.finish.specs.declared.search.Found.the-variants.{At}
 use Rattle.finish.specs.Found.{FinishTold}

@@ -47,7 +47,7 @@ use Rattle.meaning.specs.Reach.{countOf}
 use Rattle.meaning.specs.Lengths.{allows}
 use Rattle.positions.specs.Positions.{holds, Empty}
 use Rattle.positions.proofs.Held.{nothing-held}
-use Rattle.rule.proofs.Spread.{within}
+use Rattle.grammar.proofs.Spread.{within}
 use Rattle.runs.proofs.Bound.{letter-within}
 use Rattle.runs.proofs.Calls.{end-inside, seq-first, seq-second, alt-first, alt-second, star-part, pick-part, pick-binder, leaf-part}
 use Rattle.runs.proofs.Found.{run-here}

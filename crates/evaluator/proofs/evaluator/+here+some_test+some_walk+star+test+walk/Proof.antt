@@ -56,7 +56,7 @@ use Rattle.meaning.specs.Limits.{places}
 use Rattle.meaning.specs.Reach.{countOf}
 use Rattle.positions.specs.Positions.{holds, Empty}
 use Rattle.positions.proofs.Held.{held-place, nothing-held}
-use Rattle.rule.proofs.Spread.{within}
+use Rattle.grammar.proofs.Spread.{within}
 use Rattle.runs.proofs.Calls.{end-inside, left-over, seq-second, seq-either-here, alt-first, alt-second, star-part, check-part, conv-part, pick-part, pick-binder, leaf-part}
 use Rattle.runs.proofs.Calls.{fluent-number, sum-fluent-here, neg-part, both-first, both-second, diamond-first, diamond-second, exists-part, exists-binder, last-sign}
 use Rattle.runs.proofs.Leaf.{fluent-found, sum-fluent-found}

@@ -8,7 +8,7 @@ use lib.ListN.{length, getD, length-set}
 use denote.Ref.{now}
 use borrow.Fn.Kinds.{In}
 use borrow.Fn.PlainCycle.{Measures, is, falls, and}
-use Rattle.rule.proofs.Spread.{within}
+use Rattle.grammar.proofs.Spread.{within}
 use Rattle.runs.proofs.Calls.{seq-first, seq-second, alt-first, alt-second, star-part, check-part, pick-part}
 use Rattle.finish.proofs.Gained.{sign-inside, act-gained, sum-gained, next-gained, pick-gained, seq-gained, alt-gained, may-gained, never-gained, quiet-gained}
 use Rattle.finish.proofs.Rounds.{Rounds, unseen-short, unseen-apart, round-more, rounds-start, rounds-more, rounds-done}

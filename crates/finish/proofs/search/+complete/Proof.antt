@@ -11,9 +11,9 @@ use denote.Ref.{now}
 use lib.ListN.{length, length-set, take}
 use lib.Seq.{length-take-le}
 use Rattle.theory.specs.Subject.{subjectOf, tableMasks, worldOf}
-use Rattle.theory.specs.Tables.{Describes}
+use Rattle.tables.specs.Tables.{Describes}
 use Rattle.theory.proofs.step.act.Reads as act-reads
-use Rattle.theory.proofs.tables.toggle.Reads as toggle-reads
+use Rattle.tables.proofs.toggle.Reads as toggle-reads
 use Rattle.finish.specs.Search.{stands}
 use Rattle.meaning.specs.Theory.{Possible}
 use Rattle.finish.proofs.Trail.{Passed, tried, guided-more, bit-on, bit-off, asked-on, shown-more, shown-less, leaf-told, passed-out, passed-tried, kept-tried, tried-told, none-told, place, ready-more}

@@ -9,7 +9,7 @@ use denote.Ref.{now}
 use lib.ListN.{length, take}
 use lib.Seq.{length-take-le}
 use Rattle.theory.specs.Subject.{Readable, subjectOf, worldOf}
-use Rattle.theory.specs.Tables.{Describes}
+use Rattle.tables.specs.Tables.{Describes}
 use Rattle.finish.specs.Found.{LengthTold}
 use Rattle.finish.proofs.Sound.{readable}
 use Rattle.finish.proofs.Trail.{leaf-told}

@@ -5,7 +5,7 @@ use lib.ListN.{length}
 use borrow.Author.Needs.{needs}
 use borrow.Fn.Kinds.{In}
 use borrow.Fn.PlainCycle.{Measures, is, falls, and}
-use Rattle.rule.proofs.Spread.{within}
+use Rattle.grammar.proofs.Spread.{within}
 use Rattle.runs.proofs.Calls.{neg-part, both-first, both-second, exists-part}
 use Rattle.finish.proofs.May.{always-may, on-may, off-may, neg-may, both-may, exists-may, some-may}
 use Rattle.finish.proofs.truth.may_be.Reads as reads

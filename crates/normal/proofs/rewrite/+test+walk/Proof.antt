@@ -10,11 +10,11 @@ use borrow.Author.Needs.{needs}
 use borrow.Fn.Kinds.{In}
 use borrow.Fn.PlainCycle.{Measures, is, falls, and}
 use lib.ListN.{length, getD, set}
-use Rattle.rule.specs.declared.signs.Sign.{Sign}
-use Rattle.rule.specs.declared.signs.Sign.the-variants.{TwoWalks, WalkThenTest}
-use Rattle.rule.specs.Signs.{signOf}
+use Rattle.grammar.specs.declared.signs.Sign.{Sign}
+use Rattle.grammar.specs.declared.signs.Sign.the-variants.{TwoWalks, WalkThenTest}
+use Rattle.grammar.specs.Signs.{signOf}
 use Rattle.rule.proofs.Answers.{NoWalk, NoTest}
-use Rattle.rule.proofs.SignTable.{among}
+use Rattle.grammar.proofs.SignTable.{among}
 use Rattle.normal.specs.Sign.{swaps, inOrder}
 use Rattle.normal.specs.Place.{WalkToWrite, TestToWrite}
 use Rattle.normal.proofs.Standing.{two-walks, walk-test}
@@ -33,8 +33,8 @@ use Rattle.normal.proofs.rewrite.letter.Reads as letter
 use Rattle.normal.proofs.rewrite.number.Reads as number
 use Rattle.normal.proofs.rewrite.order.Reads as order
 use Rattle.normal.proofs.write.put.Reads as put
-use Rattle.rule.proofs.ends.second.Reads as second-part
-use Rattle.rule.proofs.signs.sign_of.Reads as sign-of
+use Rattle.grammar.proofs.ends.second.Reads as second-part
+use Rattle.grammar.proofs.signs.sign_of.Reads as sign-of
 use Rattle.normal.proofs.rewrite.+test+walk.{statement}
 use Rattle.normal.proofs.rewrite.+test+walk.Tie.{close}
 

@@ -4,7 +4,7 @@ use mathlib.Core.Path.{sym, ap}
 use native.Mathlib.Omega.{arith}
 use Rattle.spelling.specs.declared.Digits.{Digits}
 use Rattle.rule.specs.Facts.{fluentOf}
-use Rattle.rule.proofs.Numbers.{number-named}
+use Rattle.rule.proofs.Named.{number-named}
 use Rattle.rule.proofs.answer.fluent.Statement.{statement}
 use Rattle.rule.proofs.answer.fluent.Tie as tie
 

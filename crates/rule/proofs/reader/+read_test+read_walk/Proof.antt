@@ -13,7 +13,7 @@ use Rattle.rule.specs.declared.answer.Facts.{Facts}
 use Rattle.rule.specs.declared.answer.Read.{Read}
 use Rattle.rule.specs.Facts.{endIn, leafOf, stepOf, letteredOf, aboveOf, besideOf}
 use Rattle.rule.specs.Read.{ReadAt}
-use Rattle.rule.proofs.SignTable.{among}
+use Rattle.grammar.proofs.SignTable.{among}
 use Rattle.rule.proofs.Answers as laws
 use Rattle.rule.proofs.reader.read_test.Reads as read-test
 use Rattle.rule.proofs.reader.read_test.Kinds as read-test-kinds
@@ -29,9 +29,9 @@ use Rattle.rule.proofs.answer.inside.Reads as inside
 use Rattle.rule.proofs.answer.leaf.Reads as leaf
 use Rattle.rule.proofs.answer.lettered.Reads as lettered
 use Rattle.rule.proofs.answer.step.Reads as step
-use Rattle.rule.proofs.letters.variable_at.Reads as variable-at
-use Rattle.rule.proofs.signs.sign_of.Reads as sign-of
-use Rattle.rule.proofs.signs.turns.Reads as turns
+use Rattle.grammar.proofs.letters.variable_at.Reads as variable-at
+use Rattle.grammar.proofs.signs.sign_of.Reads as sign-of
+use Rattle.grammar.proofs.signs.turns.Reads as turns
 use Rattle.spelling.proofs.scan.two_digits.Reads as two-digits
 use Rattle.rule.proofs.reader.+read_test+read_walk.{statement}
 use Rattle.rule.proofs.reader.+read_test+read_walk.Tie.{close}

@@ -2,7 +2,7 @@
 use native.Mathlib.Omega.{arith}
 use borrow.Author.Needs.{needs}
 use denote.Ref.{now}
-use Rattle.rule.proofs.Variables.{place-low}
+use Rattle.grammar.proofs.Lettering.{place-low}
 use Rattle.runs.proofs.Bound.{letter-within, letter-place}
 use Rattle.steps.proofs.letters.place_of.Statement.{statement}
 use Rattle.steps.proofs.letters.place_of.Tie as tie

@@ -3,8 +3,8 @@ use mathlib.Core.Path.{sym}
 use native.Mathlib.Omega.{arith}
 use borrow.Author.Needs.{needs}
 use Rattle.positions.specs.Positions.{holds}
-use Rattle.theory.specs.Tables.{rowHolds}
-use Rattle.rule.proofs.Spread.{within}
+use Rattle.tables.specs.Tables.{rowHolds}
+use Rattle.grammar.proofs.Spread.{within}
 use Rattle.runs.proofs.Leaf.{act-number, undo-number, sum-act-here, sum-undo-here, act-found, undo-found, next-found, sum-act-found, sum-undo-found, prev-found}
 use Rattle.steps.proofs.step.leaf.Statement.{statement}
 use Rattle.steps.proofs.step.leaf.Tie as tie

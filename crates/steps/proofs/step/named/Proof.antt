@@ -5,7 +5,7 @@ use native.Mathlib.Omega.{arith}
 use borrow.Author.Needs.{needs}
 use denote.Ref.{now}
 use lib.ListN.{length, getD}
-use Rattle.rule.proofs.Numbers.{number-inside, number-tens, number-ones}
+use Rattle.grammar.proofs.Numbers.{number-inside, number-tens, number-ones}
 use Rattle.steps.proofs.step.named.Statement.{statement}
 use Rattle.steps.proofs.step.named.Tie as tie
 

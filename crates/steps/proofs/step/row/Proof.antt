@@ -4,7 +4,7 @@ use Prim.Native.Nat.{ℕ, _+_}
 use native.Mathlib.Omega.{arith}
 use borrow.Author.Needs.{needs}
 use denote.Ref.{now}
-use Rattle.theory.specs.Tables.{amongHolds}
+use Rattle.tables.specs.Tables.{amongHolds}
 use Rattle.steps.proofs.step.row.Statement.{statement}
 use Rattle.steps.proofs.step.row.Tie as tie
 

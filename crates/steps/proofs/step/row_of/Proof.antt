@@ -7,7 +7,7 @@ use borrow.Author.Needs.{needs}
 use borrow.Author.Tests.{lt-ltb, le-ltb}
 use lib.Dec.{ltb}
 use Rattle.positions.proofs.Held.{nothing-held}
-use Rattle.theory.specs.Tables.{rowHolds}
+use Rattle.tables.specs.Tables.{rowHolds}
 use Rattle.steps.proofs.step.row_of.Statement.{statement}
 use Rattle.steps.proofs.step.row_of.Tie as tie
 

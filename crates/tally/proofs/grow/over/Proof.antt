@@ -7,7 +7,7 @@ use lib.ListN.{length, take}
 use lib.Seq.{length-take-le}
 use Rattle.meaning.specs.Limits.{logLimit}
 use Rattle.meaning.specs.Theory.{World}
-use Rattle.theory.proofs.Transposed.{uncounted}
+use Rattle.tables.proofs.Transposed.{uncounted}
 use Rattle.tally.specs.Record.{TallyOf}
 use Rattle.tally.proofs.Growth.{tally-begins, tally-next, tally-whole, recount}
 use Rattle.tally.proofs.grow.over.Statement.{statement}

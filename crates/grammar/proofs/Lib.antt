@@ -1,0 +1,5 @@
+pub mod SignTable
+pub mod Lettering
+pub mod Numbers
+pub mod Spread
+pub mod Widths

@@ -1,0 +1,4 @@
+pub mod Signs
+pub mod Letters
+pub mod Ends
+pub mod Standing

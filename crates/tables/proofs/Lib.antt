@@ -1,0 +1,4 @@
+pub mod Marks
+pub mod Transposed
+pub mod Toggled
+pub mod Determined
