@@ -118,6 +118,31 @@ static void variables(const struct wyh_job *job) {
     verdict(&some, "1");
 }
 
+/* Effects that depend: 00 puts label 01 when the carton, 00, is open; 01 closes it; 02 opens it. The states, what is left to do, and a table of the wrong length. */
+static void depends(void) {
+    const uint32_t masks[] = {0, 0, 1, 0, 2, 0, 0, 0, 0, 0, WYH_PLAIN_ROW(0, 0, 0, 1), WYH_PLAIN_ROW(0, 0, 1, 0)};
+    const uint8_t log[] = {0, 1, 0};
+    struct wyh_job job = WYH_JOB_EMPTY;
+    uint32_t state;
+    size_t position;
+    job.fluents = 2;
+    job.actions = 3;
+    job.start = 1;
+    job.masks = masks;
+    job.masks_len = 3 * WYH_ROW_MASKS;
+    job.log = log;
+    job.log_len = 3;
+    for (position = 0; position <= 3; position++) {
+        told("state", wyh_job_state(&job, position, &state));
+        printf("  %08lx\n", (unsigned long)state);
+    }
+    job.log = log + 1;
+    job.log_len = 2;
+    finish(&job, ";*n?f01", 2);
+    job.masks_len = 12;
+    told("four masks an action", wyh_job_state(&job, 0, &state));
+}
+
 static void read_sheet(const char *text) {
     uint32_t masks[WYH_MASKS_ROOM];
     uint8_t log[WYH_LOG_ROOM];
@@ -170,14 +195,20 @@ static const char *const sheet_2 =
     "sheet=2\nfluents=02\nactions=03\ndomain=02\nstart=00000000\nact=00000000,00000000,00000001,00000000\nact=00000001,00000000,00000002,00000000\n"
     "act=00000000,00000000,00000000,00000003\nlog=00010200\nask=evg00v\nrun=;*n?!ev!g00v\nmore=2\n";
 
+static const char *const sheet_3 =
+    "sheet=3\nfluents=02\nactions=03\ndomain=01\nstart=00000001\n"
+    "act=00000000,00000000,00000001,00000000,00000002,00000000,00000000,00000000,00000000,00000000\n"
+    "act=00000000,00000000,00000000,00000000,00000000,00000001,00000000,00000000,00000000,00000000\n"
+    "act=00000000,00000000,00000000,00000000,00000001,00000000,00000000,00000000,00000000,00000000\nlog=0100\nask=f01\nrun=;*n?f01\nmore=2\n";
+
 int main(void) {
-    const uint32_t masks[12] = {0, 0, 1, 0, 1, 0, 2, 0, 0, 0, 0, 3};
+    const uint32_t masks[] = {WYH_PLAIN_ROW(0, 0, 1, 0), WYH_PLAIN_ROW(1, 0, 2, 0), WYH_PLAIN_ROW(0, 0, 0, 3)};
     const uint8_t log[4] = {0, 1, 2, 0};
     struct wyh_job job = WYH_JOB_EMPTY;
     job.fluents = 2;
     job.actions = 3;
     job.masks = masks;
-    job.masks_len = 12;
+    job.masks_len = 3 * WYH_ROW_MASKS;
     printf("version %s\n", WYH_VERSION);
     /* The log is still empty: its pointer is NULL. */
     verdict(&job, "f00");
@@ -204,12 +235,15 @@ int main(void) {
     normal(&job, "-;a00*n", 5);
     variables(&job);
     tallies(&job);
+    depends();
     nothing(&job);
     read_sheet(sheet);
     read_sheet(sheet_2);
+    read_sheet(sheet_3);
     read_sheet("sheet=0\n");
     answer(sheet);
     answer(sheet_2);
+    answer(sheet_3);
     answer("sheet=0\n");
     return 0;
 }

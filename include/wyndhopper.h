@@ -11,11 +11,13 @@
  *         each value, so binders nested k deep can take the domain to the power of k times as long as their part alone. A finish whose run names its labels tries one action a step. A run that
  *         leaves open which actions come, and says only what has to be on in the end, is searched: up to `actions` to the power of `more` sequences, of those actions that matter to it; with
  *         more than ten such actions and `more` 6 that is over 10 milliseconds. docs/BENCHMARKS.md has the times.
- *   Stack: measured, less than 40 kilobytes (a text of 255 signs that is refused; an accepted call takes less than 20); no heap.
+ *   Stack: measured, less than 43 kilobytes (a text of 255 signs that is refused; an accepted call takes less than 21); no heap.
  *   Threads: nothing is kept between calls, so any number of threads may call at once, each with lent memory of its own.
  *
- * A job is a theory and a log. The theory: `fluents` (0 to 32), `actions` (1 to 64), the start state, and a mask table of four masks an action, need, ban, put, drop,
- * in order of action number: masks_len is 4 * actions. The log: 0 to 63 bytes, one action each; steps that were not possible are accepted. A rule is 1 to 255 bytes
+ * A job is a theory and a log. The theory: `fluents` (0 to 32), `actions` (1 to 64), the start state, and a mask table of ten masks an action, need, ban, then twice when,
+ * unless, put, drop, in order of action number: masks_len is WYH_ROW_MASKS * actions. An action is possible where its need bits are on and its ban bits off. The last eight masks are the two
+ * clauses of its effects: a clause acts if its when bits are on and its unless bits off before the step; then a fluent is on if an acting clause puts it, or it was on and no acting clause
+ * drops it. WYH_PLAIN_ROW makes the row of an action whose effects do not depend. The log: 0 to 63 bytes, one action each; steps that were not possible are accepted. A rule is 1 to 255 bytes
  * of text (docs/LANGUAGE.md). The domain, 1 to 16, is how many values a variable in a rule has, from 0 on; with domain 0 a rule has no variables. Calls without a rule
  * do not look at it.
  */
@@ -25,7 +27,7 @@
 #include <stddef.h>
 #include <stdint.h>
 
-#define WYH_VERSION "0.5.0"
+#define WYH_VERSION "0.6.0"
 
 #ifdef __cplusplus
 extern "C" {
@@ -64,8 +66,14 @@ enum { WYH_RULE_ROOM = 255, WYH_FINISH_ROOM = 6 };
 /* The longest answer to a sheet fits in so many bytes. */
 enum { WYH_ANSWER_ROOM = 64 };
 
-/* What reading a sheet is lent: four masks for each of 64 actions, a log and a byte, and so many numbers. */
-enum { WYH_MASKS_ROOM = 256, WYH_LOG_ROOM = 64, WYH_SHEET_NUMBERS = 11 };
+/* So many masks of a table belong to one action. */
+enum { WYH_ROW_MASKS = 10 };
+
+/* A row from four masks, for the initializer of a table: one clause without conditions, and an empty one. */
+#define WYH_PLAIN_ROW(need, ban, put, drop) (need), (ban), 0, 0, (put), (drop), 0, 0, 0, 0
+
+/* What reading a sheet is lent: a row for each of 64 actions, a log and a byte, and so many numbers. */
+enum { WYH_MASKS_ROOM = 640, WYH_LOG_ROOM = 64, WYH_SHEET_NUMBERS = 11 };
 
 /* ---- The calls over a job --------------------------------------------------------------------------------------------------------------------------------- */
 
@@ -282,7 +290,7 @@ static inline uint8_t wyh_job_read_sheet(const uint8_t *text, size_t text_len, u
     sheet->job.domain = numbers[3];
     sheet->job.start = (uint32_t)numbers[4];
     sheet->job.masks = masks;
-    sheet->job.masks_len = 4 * numbers[2];
+    sheet->job.masks_len = WYH_ROW_MASKS * numbers[2];
     sheet->job.log = log;
     sheet->job.log_len = numbers[5];
     return 0;
@@ -291,7 +299,7 @@ static inline uint8_t wyh_job_read_sheet(const uint8_t *text, size_t text_len, u
 static inline const char *wyh_refusal_sentence(uint8_t number) {
     switch (number) {
     case 0: return "not refused";
-    case WYH_REFUSED_SHEET_TOO_LONG: return "the sheet is longer than 3,273 bytes";
+    case WYH_REFUSED_SHEET_TOO_LONG: return "the sheet is longer than 6,729 bytes";
     case WYH_REFUSED_BAD_LINE: return "the expected key and '=' do not open the line, or its LF is missing, or bytes follow the last line";
     case WYH_REFUSED_BAD_NUMBER: return "a count, the domain, the start state, a mask, the version or more is not written as it should be or out of its range, or a mask table has the wrong length";
     case WYH_REFUSED_LACKS_FLUENT: return "start or an action's mask names a fluent the theory lacks";

@@ -1,6 +1,6 @@
 //! Every call once with an answer and once with a refusal, over three actions: print 1, print 2 (needs label 1), void both. It prints what
 //! c/every_call.c prints.
-use wyndhopper::{Job, Kind, Refusal, Sheet, SheetRoom, Tally};
+use wyndhopper::{plain_row, Job, Kind, Refusal, Sheet, SheetRoom, Tally};
 
 fn told<T>(call: &str, answer: &Result<T, Refusal>) {
     match answer {
@@ -100,6 +100,19 @@ fn variables(job: &Job) {
     verdict(&some.with_domain(17), "1");
 }
 
+/// Effects that depend: 00 puts label 01 when the carton, 00, is open; 01 closes it; 02 opens it. The states, what is left to do, and a table of the wrong length.
+fn depends() {
+    let masks = [[0, 0, 1, 0, 2, 0, 0, 0, 0, 0], plain_row(0, 0, 0, 1), plain_row(0, 0, 1, 0)];
+    let open = Job::new(2, 3, masks.as_flattened()).with_start(1).with_log(&[0, 1, 0]);
+    for position in 0..=3 {
+        let answer = open.state(position);
+        told("state", &answer);
+        println!("  {:08x}", answer.unwrap_or(0));
+    }
+    finish(&open.with_log(&[1, 0]), ";*n?f01", 2);
+    told("four masks an action", &Job::new(2, 3, &[0; 12]).state(0));
+}
+
 fn read_sheet(text: &str) {
     let mut room = SheetRoom::new();
     let answer = Sheet::read(text.as_bytes(), &mut room);
@@ -145,10 +158,15 @@ const SHEET: &str = "sheet=1\nfluents=02\nactions=03\nstart=00000000\nact=000000
 const SHEET_2: &str = "sheet=2\nfluents=02\nactions=03\ndomain=02\nstart=00000000\nact=00000000,00000000,00000001,00000000\n\
     act=00000001,00000000,00000002,00000000\nact=00000000,00000000,00000000,00000003\nlog=00010200\nask=evg00v\nrun=;*n?!ev!g00v\nmore=2\n";
 
+const SHEET_3: &str = "sheet=3\nfluents=02\nactions=03\ndomain=01\nstart=00000001\n\
+    act=00000000,00000000,00000001,00000000,00000002,00000000,00000000,00000000,00000000,00000000\n\
+    act=00000000,00000000,00000000,00000000,00000000,00000001,00000000,00000000,00000000,00000000\n\
+    act=00000000,00000000,00000000,00000000,00000001,00000000,00000000,00000000,00000000,00000000\nlog=0100\nask=f01\nrun=;*n?f01\nmore=2\n";
+
 fn main() {
-    let masks = [0, 0, 1, 0, 1, 0, 2, 0, 0, 0, 0, 3];
+    let masks = [plain_row(0, 0, 1, 0), plain_row(1, 0, 2, 0), plain_row(0, 0, 0, 3)];
     println!("version {}", wyndhopper::VERSION);
-    let empty = Job::new(2, 3, &masks);
+    let empty = Job::new(2, 3, masks.as_flattened());
     verdict(&empty, "f00");
     let job = empty.with_log(&[0, 1, 2, 0]);
     states(&job);
@@ -172,11 +190,14 @@ fn main() {
     normal(&job, "-;a00*n", 5);
     variables(&job);
     tallies(&job);
+    depends();
     nothing(&job);
     read_sheet(SHEET);
     read_sheet(SHEET_2);
+    read_sheet(SHEET_3);
     read_sheet("sheet=0\n");
     answer(SHEET);
     answer(SHEET_2);
+    answer(SHEET_3);
     answer("sheet=0\n");
 }

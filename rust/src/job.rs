@@ -13,10 +13,29 @@ pub const RULE_ROOM: usize = 255;
 /// The longest finishing sequence.
 pub const FINISH_ROOM: usize = 6;
 
+/// How many masks of a table belong to one action: need, ban, then twice when, unless, put, drop.
+pub const ROW_MASKS: usize = 10;
+
+/// The row of an action whose effects do not depend on the state: one clause without conditions, and an empty one.
+///
+/// ```
+/// use wyndhopper::{plain_row, Job};
+///
+/// // 00 puts label 01 when the carton, 00, is open; 01 closes it.
+/// let masks = [[0, 0, 1, 0, 2, 0, 0, 0, 0, 0], plain_row(0, 0, 0, 1)];
+/// let job = Job::new(2, 2, masks.as_flattened()).with_start(1);
+/// assert_eq!(job.with_log(&[0]).state(1), Ok(3));
+/// assert_eq!(job.with_log(&[1, 0]).state(2), Ok(0));
+/// ```
+pub const fn plain_row(need: u32, ban: u32, put: u32, drop: u32) -> [u32; ROW_MASKS] {
+    [need, ban, 0, 0, put, drop, 0, 0, 0, 0]
+}
+
 /// A theory with a job's log. It is made by [`Job::new`], so that what later versions add breaks no program.
 ///
-/// The mask table has four masks an action: need, ban, put, drop. The domain is how many values a variable in a rule has, 1 to 16; 0, as [`Job::new`] has it, is a job without variables. Calls
-/// without a rule do not look at it.
+/// The mask table has ten masks an action: need, ban, then twice when, unless, put, drop; [`plain_row`] makes the row of an action whose effects do not depend. A clause acts if its when bits are on
+/// and its unless bits off before the step; then a fluent is on if an acting clause puts it, or it was on and no acting clause drops it. The domain is how many values a variable in a rule has,
+/// 1 to 16; 0, as [`Job::new`] has it, is a job without variables. Calls without a rule do not look at it.
 #[derive(Clone, Copy, Debug, PartialEq, Eq)]
 pub struct Job<'a> {
     fluents: usize,
@@ -70,11 +89,11 @@ impl<'a> Job<'a> {
     /// The same job with so many values for a variable.
     ///
     /// ```
-    /// use wyndhopper::{Job, Refusal};
+    /// use wyndhopper::{plain_row, Job, Refusal};
     ///
     /// // Two labels; print 2 needs label 1. Is some label out?
-    /// let masks = [0, 0, 1, 0, 1, 0, 2, 0];
-    /// let job = Job::new(2, 2, &masks).with_log(&[0]);
+    /// let masks = [plain_row(0, 0, 1, 0), plain_row(1, 0, 2, 0)];
+    /// let job = Job::new(2, 2, masks.as_flattened()).with_log(&[0]);
     /// assert_eq!(job.with_domain(2).verdict(b"evg00v", 1, 1), Ok(true));
     /// assert_eq!(job.verdict(b"evg00v", 1, 1), Err(Refusal::BadRule));
     /// assert_eq!(job.with_domain(2).verdict(b"g00v", 1, 1), Err(Refusal::Unbound));

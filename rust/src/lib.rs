@@ -5,11 +5,11 @@
 //! What a call may cost stands in the header, include/wyndhopper.h.
 //!
 //! ```
-//! use wyndhopper::{Job, Kind, Refusal};
+//! use wyndhopper::{plain_row, Job, Kind, Refusal};
 //!
 //! // Two labels; print 2 needs label 1.
-//! let masks = [0, 0, 1, 0, 1, 0, 2, 0];
-//! let job = Job::new(2, 2, &masks).with_log(&[0]);
+//! let masks = [plain_row(0, 0, 1, 0), plain_row(1, 0, 2, 0)];
+//! let job = Job::new(2, 2, masks.as_flattened()).with_log(&[0]);
 //! assert_eq!(job.state(1), Ok(1));
 //! assert_eq!(job.verdict(b"f00", 1, 1), Ok(true));
 //! assert!(job.reach(b"*n", 0, 1).unwrap().holds(1));
@@ -31,7 +31,7 @@ mod refusal;
 mod sheet;
 mod tally;
 
-pub use job::{Job, Reached, FINISH_ROOM, NO_POSITION, RULE_ROOM, SET_WORDS};
+pub use job::{plain_row, Job, Reached, FINISH_ROOM, NO_POSITION, ROW_MASKS, RULE_ROOM, SET_WORDS};
 pub use refusal::Refusal;
 pub use sheet::{Fault, Sheet, SheetRoom, LOG_ROOM, MASKS_ROOM};
 pub use tally::{Tally, TALLY_ACTIONS};

@@ -53,7 +53,7 @@ impl Refusal {
 impl fmt::Display for Refusal {
     fn fmt(&self, f: &mut fmt::Formatter<'_>) -> fmt::Result {
         f.write_str(match self {
-            Refusal::SheetTooLong => "the sheet is longer than 3,273 bytes",
+            Refusal::SheetTooLong => "the sheet is longer than 6,729 bytes",
             Refusal::BadLine => "the expected key and '=' do not open the line, or its LF is missing, or bytes follow the last line",
             Refusal::BadNumber => "a count, the domain, the start state, a mask, the version or more is not written as it should be or out of its range, or a mask table has the wrong length",
             Refusal::LacksFluent => "start or an action's mask names a fluent the theory lacks",

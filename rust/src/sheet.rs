@@ -1,10 +1,10 @@
 //! A whole sheet: read into a job and what the sheet asks of it.
 use crate::job::answered;
-use crate::{raw, Job, Refusal};
+use crate::{raw, Job, Refusal, ROW_MASKS};
 use std::fmt;
 
 /// How many masks and how much of a log the reading of a sheet is lent, and how many numbers it gives.
-pub const MASKS_ROOM: usize = 256;
+pub const MASKS_ROOM: usize = 64 * ROW_MASKS;
 pub const LOG_ROOM: usize = 64;
 const SHEET_NUMBERS: usize = 11;
 
@@ -73,7 +73,7 @@ impl<'a> Sheet<'a> {
             unsafe { raw::wyh_read_sheet(text.as_ptr(), text.len(), room.masks.as_mut_ptr(), room.log.as_mut_ptr(), numbers.as_mut_ptr()) };
         let [line, fluents, actions, domain, start, steps, ask, ask_end, run, run_end, more] = numbers;
         answered(refused, ()).map_err(|refusal| Fault { refusal, line })?;
-        let job = Job::new(fluents, actions, &room.masks[..4 * actions]).with_domain(domain).with_start(start as u32).with_log(&room.log[..steps]);
+        let job = Job::new(fluents, actions, &room.masks[..ROW_MASKS * actions]).with_domain(domain).with_start(start as u32).with_log(&room.log[..steps]);
         Ok(Sheet { job, ask: &text[ask..ask_end], run: &text[run..run_end], more })
     }
 }

@@ -9,11 +9,11 @@ pub const TALLY_ACTIONS: usize = 64;
 /// kept as the position after the step, 0 for none. A tally that the library did not make is taken by its fields as they stand.
 ///
 /// ```
-/// use wyndhopper::{Job, Refusal, Tally};
+/// use wyndhopper::{plain_row, Job, Refusal, Tally};
 ///
 /// // Two labels; print 2 needs label 1. Label 2 is printed by hand first, which was not possible.
-/// let masks = [0, 0, 1, 0, 1, 0, 2, 0];
-/// let job = Job::new(2, 2, &masks).with_log(&[1]);
+/// let masks = [plain_row(0, 0, 1, 0), plain_row(1, 0, 2, 0)];
+/// let job = Job::new(2, 2, masks.as_flattened()).with_log(&[1]);
 /// let mut tally = Tally::of(&job).unwrap();
 /// assert_eq!((tally.counts[1], tally.impossible), (0, 1));
 /// tally.append(&job, 0).unwrap();

@@ -1,13 +1,13 @@
 //! `n` and `u` are one of our actions, so that they cross possible steps only: worked out by hand, asked of the library. Three actions: print 1, print 2 (needs
 //! label 1), void both. M is 01 00 (01 was not possible), L is 00 01 02 00 (every step was); now is the end unless given.
-use wyndhopper::{Job, Refusal, FINISH_ROOM};
+use wyndhopper::{plain_row, Job, Refusal, FINISH_ROOM, ROW_MASKS};
 
-const MASKS: [u32; 12] = [0, 0, 1, 0, 1, 0, 2, 0, 0, 0, 0, 3];
+const MASKS: [[u32; ROW_MASKS]; 3] = [plain_row(0, 0, 1, 0), plain_row(1, 0, 2, 0), plain_row(0, 0, 0, 3)];
 const M: &[u8] = &[1, 0];
 const L: &[u8] = &[0, 1, 2, 0];
 
 fn job(log: &[u8]) -> Job<'_> {
-    Job::new(2, 3, &MASKS).with_log(log)
+    Job::new(2, 3, MASKS.as_flattened()).with_log(log)
 }
 
 fn reach(log: &[u8], walk: &str, then: usize) -> (u64, usize, usize) {

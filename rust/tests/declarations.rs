@@ -175,6 +175,7 @@ fn constants_and_version_are_the_same() {
     assert_eq!(number("WYH_NO_POSITION"), wyndhopper::NO_POSITION);
     assert_eq!(number("WYH_RULE_ROOM"), wyndhopper::RULE_ROOM);
     assert_eq!(number("WYH_FINISH_ROOM"), wyndhopper::FINISH_ROOM);
+    assert_eq!(number("WYH_ROW_MASKS"), wyndhopper::ROW_MASKS);
     assert_eq!(number("WYH_MASKS_ROOM"), wyndhopper::MASKS_ROOM);
     assert_eq!(number("WYH_LOG_ROOM"), wyndhopper::LOG_ROOM);
     assert_eq!(number("WYH_TALLY_ACTIONS"), wyndhopper::TALLY_ACTIONS);

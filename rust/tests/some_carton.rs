@@ -1,12 +1,12 @@
 //! Variables (request Q-2): worked out by hand, asked of the library. Three actions: print 1, print 2 (needs label 1), void both. L is 00 01 02 00, E is empty; now is the end unless given.
-use wyndhopper::{Job, Kind, Refusal, Tally, FINISH_ROOM, RULE_ROOM};
+use wyndhopper::{plain_row, Job, Kind, Refusal, Tally, FINISH_ROOM, ROW_MASKS, RULE_ROOM};
 
-const MASKS: [u32; 12] = [0, 0, 1, 0, 1, 0, 2, 0, 0, 0, 0, 3];
+const MASKS: [[u32; ROW_MASKS]; 3] = [plain_row(0, 0, 1, 0), plain_row(1, 0, 2, 0), plain_row(0, 0, 0, 3)];
 const L: &[u8] = &[0, 1, 2, 0];
 const E: &[u8] = &[];
 
 fn job(log: &[u8], domain: usize) -> Job<'_> {
-    Job::new(2, 3, &MASKS).with_log(log).with_domain(domain)
+    Job::new(2, 3, MASKS.as_flattened()).with_log(log).with_domain(domain)
 }
 
 fn set(domain: usize, walk: &str, then: usize) -> Result<u64, Refusal> {

@@ -1,10 +1,10 @@
 //! The running tally: worked out by hand, asked of the library. Three actions: print 1, print 2 (needs label 1), void both.
-use wyndhopper::{Job, Refusal, Tally};
+use wyndhopper::{plain_row, Job, Refusal, Tally, ROW_MASKS};
 
-const MASKS: [u32; 12] = [0, 0, 1, 0, 1, 0, 2, 0, 0, 0, 0, 3];
+const MASKS: [[u32; ROW_MASKS]; 3] = [plain_row(0, 0, 1, 0), plain_row(1, 0, 2, 0), plain_row(0, 0, 0, 3)];
 
 fn job(log: &[u8]) -> Job<'_> {
-    Job::new(2, 3, &MASKS).with_log(log)
+    Job::new(2, 3, MASKS.as_flattened()).with_log(log)
 }
 
 fn front<T: Copy>(all: &[T]) -> [T; 3] {
@@ -66,8 +66,8 @@ fn a_full_log_is_refused_and_the_record_stays() {
 #[test]
 fn refusals_come_in_their_order_and_change_nothing() {
     let before = Tally { counts: [7; 64], last: [9; 64], state: 5, steps: 64, impossible: 200 };
-    let wrong_table = Job::new(2, 3, &MASKS[..11]);
-    let lacking = Job::new(1, 3, &MASKS);
+    let wrong_table = Job::new(2, 3, &MASKS.as_flattened()[..29]);
+    let lacking = Job::new(1, 3, MASKS.as_flattened());
     let mut tally = before;
     for (job, refusal) in [(wrong_table, Refusal::BadNumber), (lacking, Refusal::LacksFluent), (job(&[3]), Refusal::BadLog), (job(&[0; 64]), Refusal::BadLog)] {
         assert_eq!(tally.reset(&job), Err(refusal));
@@ -82,7 +82,7 @@ fn refusals_come_in_their_order_and_change_nothing() {
     assert_eq!(short.append(&job(&[3, 3]), 2), Ok(()));
     assert_eq!(before.happened(&wrong_table, 2), Ok(false));
     for actions in [0, 65] {
-        assert_eq!(before.happened(&Job::new(2, actions, &MASKS), 65), Err(Refusal::BadNumber));
+        assert_eq!(before.happened(&Job::new(2, actions, MASKS.as_flattened()), 65), Err(Refusal::BadNumber));
     }
     assert_eq!(before.happened(&job(&[]), 3), Err(Refusal::LacksName));
 }

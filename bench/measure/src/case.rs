@@ -1,4 +1,5 @@
 //! A case: a theory, a log and one question, and its answer by each of the implementations.
+use wyndhopper::ROW_MASKS;
 
 #[derive(Clone, Debug)]
 pub struct Theory {
@@ -6,7 +7,7 @@ pub struct Theory {
     /// How many values a variable has, 0 where no rule has one.
     pub domain: usize,
     pub start: u32,
-    /// Need, ban, put, drop, four masks an action.
+    /// Ten masks an action; the effects of most theories here do not depend.
     pub masks: Vec<u32>,
 }
 
@@ -32,7 +33,7 @@ pub type Answer = Result<[u64; 3], u8>;
 
 impl Theory {
     pub fn actions(&self) -> usize {
-        self.masks.len() / 4
+        self.masks.len() / ROW_MASKS
     }
 
     pub fn with_domain(self, domain: usize) -> Self {
@@ -112,10 +113,18 @@ pub fn visits(c: &Case) -> Option<(usize, usize)> {
 
 /// A sheet's text, of version 2 where there are variables.
 pub fn sheet(t: &Theory, log: &[u8], ask: &str, run: &str, more: usize) -> String {
-    let (version, domain) = if t.domain == 0 { (1, String::new()) } else { (2, format!("domain={:02}\n", t.domain)) };
+    let version = if t.domain == 0 { 1 } else { 2 };
+    sheet_of(version, t, log, ask, run, more)
+}
+
+/// The same of this version; one before 3 has the masks of effects that do not depend.
+pub fn sheet_of(version: usize, t: &Theory, log: &[u8], ask: &str, run: &str, more: usize) -> String {
+    let domain = if version == 1 { String::new() } else { format!("domain={:02}\n", t.domain.max(1)) };
     let mut s = format!("sheet={version}\nfluents={:02}\nactions={:02}\n{domain}start={:08x}\n", t.fluents, t.actions(), t.start);
-    for m in t.masks.chunks(4) {
-        s += &format!("act={:08x},{:08x},{:08x},{:08x}\n", m[0], m[1], m[2], m[3]);
+    for m in t.masks.chunks(ROW_MASKS) {
+        let line = if version < 3 { vec![m[0], m[1], m[4], m[5]] } else { m.to_vec() };
+        let hex: Vec<String> = line.iter().map(|m| format!("{m:08x}")).collect();
+        s += &format!("act={}\n", hex.join(","));
     }
     let steps: String = log.iter().map(|a| format!("{a:02}")).collect();
     s + &format!("log={steps}\nask={ask}\nrun={run}\nmore={more}\n")

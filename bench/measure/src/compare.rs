@@ -1,7 +1,7 @@
 //! The tables of ratios: verdict, reach and finish beside the plain implementation, and whole sheets.
 use std::hint::black_box;
 
-use crate::case::{ours, plain, quick, sheet, turns, Ask, Case, Theory};
+use crate::case::{ours, plain, quick, sheet, sheet_of, turns, Ask, Case, Theory};
 use crate::clock::{least, side_by_side, TABLE};
 use crate::texts::{diamonds, held_up, in_order, tests, wide_choice, wide_test};
 use crate::theories::{cartons, document, each_once, either, idle, labels, round, sixteen};
@@ -109,6 +109,7 @@ fn sheets() -> Vec<(&'static str, String)> {
         ("sixteen cartons, three missing after a void", sheet(&sixteen(), &voided(), "ev&!g00v<-;b16v*n1", ";*pv|b00v;b16vb00v?!ev!g00v", 6)),
         ("64 actions, log of 57, six missing", sheet(&many, &round(57, 64), SPOILED, &in_order(63), 6)),
         ("the longest sheet of version 1, 3,263 bytes", sheet(&many, &round(63, 64), &wide_test(255), &wide_choice(255), 6)),
+        ("the longest sheet, 6,729 bytes", sheet_of(3, &many, &round(63, 64), &wide_test(255), &wide_choice(255), 6)),
     ]
 }
 

@@ -1,5 +1,6 @@
 //! Jobs as line leads write them, with an `n` in each: some steps of any kind before, between or behind the labels that they name. Seeded, so that a run is repeated.
 use crate::case::{Ask, Case, Theory};
+use wyndhopper::{plain_row, ROW_MASKS};
 
 /// A small generator of numbers (xorshift).
 struct Dice(u64);
@@ -21,12 +22,12 @@ fn line(d: &mut Dice, actions: usize) -> Theory {
     for a in 0..actions {
         let own = 1 << (a % fluents);
         if 4 * a >= 3 * actions {
-            masks.extend([0, 0, 1 << (24 + a % 8), 1 << (24 + d.below(8))]);
+            masks.extend(plain_row(0, 0, 1 << (24 + a % 8), 1 << (24 + d.below(8))));
             continue;
         }
         let need = if d.below(2) == 0 && a > 0 { 1 << ((a - 1) % fluents) } else { 0 };
         let spoiled = if d.below(5) == 0 { 1 << d.below(fluents) & !own } else { 0 };
-        masks.extend([need, if d.below(3) > 0 { 0 } else { own & !need }, own, spoiled]);
+        masks.extend(plain_row(need, if d.below(3) > 0 { 0 } else { own & !need }, own, spoiled));
     }
     Theory { fluents: 32, domain: 0, start: 0, masks }
 }
@@ -35,12 +36,13 @@ fn line(d: &mut Dice, actions: usize) -> Theory {
 fn log(d: &mut Dice, t: &Theory, steps: usize) -> Vec<u8> {
     let (mut state, mut log) = (t.start, Vec::new());
     for _ in 0..steps {
-        let able: Vec<usize> = (0..t.actions()).filter(|a| state & t.masks[4 * a] == t.masks[4 * a] && state & t.masks[4 * a + 1] == 0).collect();
+        let rows: Vec<&[u32]> = t.masks.chunks(ROW_MASKS).collect();
+        let able: Vec<usize> = (0..rows.len()).filter(|&a| state & rows[a][0] == rows[a][0] && state & rows[a][1] == 0).collect();
         if able.is_empty() {
             break;
         }
         let a = able[d.below(able.len())];
-        state = t.masks[4 * a + 2] | state & !t.masks[4 * a + 3];
+        state = rows[a][4] | state & !rows[a][5];
         log.push(a as u8);
     }
     log

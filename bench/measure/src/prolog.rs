@@ -1,5 +1,6 @@
 //! A case as Prolog clauses for the paper's interpreter: the theory of the sheet, and its question as a term in the paper's notation.
 use crate::case::Theory;
+use wyndhopper::ROW_MASKS;
 
 /// The walk at the front of a text, as a term, and the rest of the text.
 fn walk(text: &str) -> (String, &str) {
@@ -49,20 +50,26 @@ pub fn situation(log: &[u8]) -> String {
     log.iter().fold("s0".into(), |s, a| format!("do(a{a:02},{s})"))
 }
 
+/// Where the masks of an action stand whose effects do not depend; the interpreter has no others.
+const NEED: usize = 0;
+const BAN: usize = 1;
+const PUT: usize = 4;
+const DROP: usize = 5;
+
 /// `A = aNN` for each action whose mask of this place names the fluent, joined by `or`.
 fn actions_with(t: &Theory, place: usize, fluent: usize) -> Vec<String> {
-    let named = |a: &usize| t.masks[4 * a + place] >> fluent & 1 == 1;
+    let named = |a: &usize| t.masks[ROW_MASKS * a + place] >> fluent & 1 == 1;
     (0..t.actions()).filter(named).map(|a| format!("A = a{a:02}")).collect()
 }
 
 /// Document 001's successor state rule for one fluent: put wins, and of the rest what was on and is not dropped stays.
 fn successor(t: &Theory, i: usize) -> String {
     let mut kept = format!("f{i:02}(S)");
-    let drops = actions_with(t, 3, i);
+    let drops = actions_with(t, DROP, i);
     if !drops.is_empty() {
         kept = format!("\\+ ( {} ), {kept}", drops.join(" ; "));
     }
-    let puts = actions_with(t, 2, i);
+    let puts = actions_with(t, PUT, i);
     if !puts.is_empty() {
         kept = format!("( ( {} ) -> true ; {kept} )", puts.join(" ; "));
     }
@@ -71,12 +78,12 @@ fn successor(t: &Theory, i: usize) -> String {
 
 /// What an action needs, as goals: its fluents of one mask, with `not` in front.
 fn needs(t: &Theory, a: usize, place: usize, not: &str) -> Vec<String> {
-    let named = |i: &usize| t.masks[4 * a + place] >> i & 1 == 1;
+    let named = |i: &usize| t.masks[ROW_MASKS * a + place] >> i & 1 == 1;
     (0..t.fluents).filter(named).map(|i| format!("{not}f{i:02}(S)")).collect()
 }
 
 fn possible(t: &Theory, a: usize) -> String {
-    let all = [needs(t, a, 0, ""), needs(t, a, 1, "\\+ ")].concat();
+    let all = [needs(t, a, NEED, ""), needs(t, a, BAN, "\\+ ")].concat();
     if all.is_empty() {
         return format!("poss(a{a:02},_).\n");
     }

@@ -4,10 +4,11 @@ use std::hint::black_box;
 use crate::case::{ours, plain, quick, sheet, Ask, Case, Theory};
 use crate::painted::stack_of;
 use crate::shapes::Way;
+use wyndhopper::plain_row;
 
 /// Action 00 is never possible, action 01 always: a search for a finish goes down to the bound and comes back. One value, so that binders nest at no cost of time.
 fn theory() -> Theory {
-    Theory { fluents: 1, domain: 1, start: 0, masks: vec![1, 0, 0, 0, 0, 0, 0, 0] }
+    Theory { fluents: 1, domain: 1, start: 0, masks: [plain_row(1, 0, 0, 0), plain_row(0, 0, 0, 0)].concat() }
 }
 
 fn case(ask: Ask) -> Case {

@@ -2,7 +2,7 @@
 //! the job asks for are tried. The tables are made afresh at every turn.
 use crate::evaluate::Evaluator;
 use crate::rule::{Rule, Values};
-use crate::world::{possible, up_to, Tables, World, LOG_LIMIT};
+use crate::world::{possible, up_to, Tables, World, LOG_LIMIT, ROW};
 
 pub struct Search<'a> {
     world: &'a World<'a>,
@@ -15,7 +15,7 @@ pub struct Search<'a> {
 
 /// The actions of a theory that are possible in a state, bit a for action a.
 pub fn doable(world: &World, state: u32) -> u64 {
-    world.masks.chunks_exact(4).enumerate().fold(0, |all, (a, m)| all | u64::from(possible(m, state)) << a)
+    world.masks.chunks_exact(ROW).enumerate().fold(0, |all, (a, m)| all | u64::from(possible(m, state)) << a)
 }
 
 /// The longest sequence that may be tried.

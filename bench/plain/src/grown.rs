@@ -6,7 +6,7 @@ use crate::lengths::Lengths;
 use crate::quick::Quick;
 use crate::rule::{Rule, Values};
 use crate::standins::worth;
-use crate::world::{after, possible, up_to, Tables, World};
+use crate::world::{after, possible, up_to, Tables, World, ROW};
 
 /// The actions asked for, bit a for action a, with so many steps left.
 type Asked = [u64; 7];
@@ -138,7 +138,7 @@ impl Growing<'_> {
 /// The first sequence that finishes the job, in the front of `out`; and how often the job was asked on the way.
 pub fn first(world: &World, rule: &Rule, more: usize, out: &mut [u8]) -> (Option<usize>, usize) {
     let seek = |slots: &mut [u64], out: &mut [u8]| {
-        let all = u64::MAX >> (64 - world.masks.len() / 4);
+        let all = u64::MAX >> (64 - world.masks.len() / ROW);
         let tables = Tables::over(world, world.log);
         let mut search = Growing { world, rule, tables, slots, lengths: Lengths::none(rule), worth: all, tail: [0; 6], turns: 0 };
         let length = search.first(longest(world, more));

@@ -1,6 +1,6 @@
 //! How many steps a job can still take behind each of its step signs, from the text alone. A set of lengths is a byte, bit l for l steps, 0 to 6.
 use crate::rule::Rule;
-use crate::world::World;
+use crate::world::{World, ROW};
 
 /// No sequence is longer.
 const MOST: u8 = 0b111_1111;
@@ -15,7 +15,7 @@ struct Turning {
 impl Turning {
     fn from(world: &World, state: u32) -> Self {
         let start = Turning { on: state, off: !state };
-        world.masks.chunks_exact(4).fold(start, |t, m| Turning { on: t.on | m[2], off: t.off | m[3] & !m[2] })
+        world.masks.chunks_exact(ROW).fold(start, |t, m| Turning { on: t.on | m[4] | m[8], off: t.off | m[5] & !m[4] | m[9] & !m[8] })
     }
 }
 

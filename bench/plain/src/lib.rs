@@ -26,7 +26,8 @@ use world::{up_to, Tables, World};
 /// A refusal's number.
 pub type Refusal = u8;
 
-/// A theory with a job's log and the domain of its rules' variables, 0 for none. The mask table has four masks an action: need, ban, put, drop.
+/// A theory with a job's log and the domain of its rules' variables, 0 for none. The mask table has ten masks an action: need, ban, then
+/// twice when, unless, put, drop.
 #[derive(Clone, Copy, Debug)]
 pub struct Job<'a> {
     pub fluents: usize,

@@ -4,6 +4,9 @@ use crate::Refusal;
 
 pub const LOG_LIMIT: usize = 63;
 
+/// So many masks of a table belong to one action: need, ban, then twice when, unless, put, drop.
+pub const ROW: usize = 10;
+
 /// A theory and a log that were checked.
 pub struct World<'a> {
     pub start: u32,
@@ -21,14 +24,24 @@ pub fn possible(m: &[u32], state: u32) -> bool {
     m[0] & state == m[0] && m[1] & state == 0
 }
 
-/// What put names is on, and of the rest what was on and drop does not name.
+/// What a clause puts and drops in a state: nothing where it does not act.
+fn clause(c: &[u32], state: u32) -> (u32, u32) {
+    if possible(c, state) {
+        (c[2], c[3])
+    } else {
+        (0, 0)
+    }
+}
+
+/// What an acting clause puts is on, and of the rest what was on and no acting clause drops.
 pub fn after(m: &[u32], state: u32) -> u32 {
-    m[2] | state & !m[3]
+    let ((put, drop), (put2, drop2)) = (clause(&m[2..6], state), clause(&m[6..10], state));
+    put | put2 | state & !(drop | drop2)
 }
 
 impl<'a> World<'a> {
     pub fn checked(c: Counts, start: u32, masks: &'a [u32], log: &'a [u8]) -> Result<Self, Refusal> {
-        if c.fluents > 32 || c.actions < 1 || c.actions > 64 || c.domain > 16 || masks.len() != 4 * c.actions {
+        if c.fluents > 32 || c.actions < 1 || c.actions > 64 || c.domain > 16 || masks.len() != ROW * c.actions {
             return Err(3);
         }
         let named = masks.iter().fold(start, |all, m| all | m);
@@ -41,9 +54,9 @@ impl<'a> World<'a> {
         Ok(World { start, masks, log })
     }
 
-    /// The four masks of an action.
+    /// The masks of an action.
     pub fn act(&self, a: usize) -> &'a [u32] {
-        &self.masks[4 * a..4 * a + 4]
+        &self.masks[ROW * a..ROW * a + ROW]
     }
 }
 

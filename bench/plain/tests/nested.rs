@@ -96,7 +96,7 @@ fn test(d: &mut Dice, signs: usize, s: Scope) -> String {
 /// One rule over one log at one now: the walk from every then, and the test at every then.
 fn ask(d: &mut Dice) -> usize {
     let few = |d: &mut Dice| d.next() as u32 & d.next() as u32 & 3;
-    let masks: Vec<u32> = (0..4 * ACTIONS).map(|_| few(d)).collect();
+    let masks: Vec<u32> = (0..10 * ACTIONS).map(|_| few(d)).collect();
     let steps = d.below(6);
     let log: Vec<u8> = (0..steps).map(|_| d.below(ACTIONS) as u8).collect();
     let job = Job { fluents: FLUENTS, actions: ACTIONS, domain: DOMAIN, start: few(d), masks: &masks, log: &log };

@@ -4,7 +4,7 @@
 #[path = "../../../tests/compare/src/make.rs"]
 mod make;
 
-use make::{Dice, Names};
+use make::{Dice, Names, ROW};
 use oracle::rule::Counts;
 use plain::Job;
 
@@ -25,12 +25,15 @@ fn theory(d: &mut Dice, actions: usize) -> Theory {
     for a in 0..actions {
         if a > 0 && d.below(5) < 3 {
             let like = d.below(a);
-            masks.extend_from_within(4 * like..4 * like + 4);
+            masks.extend_from_within(ROW * like..ROW * like + ROW);
             if d.once_in(2) {
-                masks[4 * a + d.below(4)] ^= 1 << d.below(FLUENTS);
+                masks[ROW * a + d.below(ROW)] ^= 1 << d.below(FLUENTS);
             }
         } else {
-            masks.extend([mask(d, 3), mask(d, 3), mask(d, 2), mask(d, 2)]);
+            masks.extend([mask(d, 3), mask(d, 3)]);
+            for _ in 0..2 {
+                masks.extend([mask(d, 3), mask(d, 3), mask(d, 2), mask(d, 2)]);
+            }
         }
     }
     Theory { start: mask(d, 1), masks }

@@ -25,7 +25,7 @@ fn report(name: &[u8], want: &[u8], got: &[u8]) {
 fn row(table: &[u8], name: usize, named: usize, first: usize, end: usize)
     requires { ⌜ (name ≤ named) × (named ≤ length (now table)) × (first ≤ end) × (end ≤ length (now table)) ⌝ }
 {
-    let mut sheet = [0u8; 4096];
+    let mut sheet = [0u8; 8192];
     let n = build::sheet(table, first, end, &mut sheet);
     let mut out = [0u8; ANSWER_ROOM];
     let count = answer::answer(&sheet[..n], &mut out);

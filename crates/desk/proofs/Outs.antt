@@ -2,9 +2,9 @@
 -- so. Knows the meaning of a theory and the desk's specs; no call and no code.
 use mathlib.Core.Path.{_≡_, sym, ap, subst, _∙_}
 use mathlib.Core.Logic.{_↔_, _⊎_, inl, inr, ⊎-elim}
-use mathlib.Core.Bool.{true, false, not, _&&_, _||_, and-true, and-false}
+use mathlib.Core.Bool.{true, false, _||_, and-true, and-false}
 use mathlib.Core.List.{List}
-use Prim.Native.Nat.{ℕ, zero, suc, _-_, _≤_, _<_}
+use Prim.Native.Nat.{ℕ, zero, suc, _-_, _^_, _≤_, _<_}
 use native.Mathlib.Decide.{ℕ-discrete}
 use native.Mathlib.Numerals.{add-one}
 use native.Mathlib.Omega.{arith}
@@ -14,25 +14,21 @@ use lib.ListN.{length, getD}
 use Rattle.laws.specs.Bit.{on}
 use Rattle.laws.proofs.On.{on-none}
 use Rattle.laws.proofs.Shift.{on-pow, on-ones}
-use Rattle.laws.proofs.Gather.{on-gather}
 use Rattle.laws.proofs.Truth.{off-on, or-iff}
 use Rattle.meaning.specs.Limits.{fluentLimit}
-use Rattle.meaning.specs.Theory.{Masks, Possible, World, after, stateAt}
+use Rattle.meaning.specs.Theory.{Possible, World, after, stateAt}
 use Rattle.meaning.proofs.Theory.{state-start, state-step}
+use Rattle.meaning.proofs.Effects.{plain-bit}
 use Rattle.theory.specs.Subject.{tableMasks, worldOf}
 use Rattle.desk.specs.Log.{cartonLimit, labelOf, OutAt, MayPrint}
-use Rattle.desk.specs.Labels.{printMasks, voidMasks, LabelTheory, deskSubject}
+use Rattle.desk.specs.Labels.{lowerOf, printMasks, voidMasks, LabelTheory, deskSubject}
 
--- a fluent after a step
-on-after : (m : Masks) (state i : ℕ) → i < fluentLimit → on (after m state) i ≡ (on (m .put) i || (on state i && not (on (m .drop) i)))
-unfolding after
-on-after m state i h = rw (on-gather, lt-ltb i fluentLimit h)
-
+-- a fluent after a print, and after the void
 on-printed : (a state i : ℕ) → i < fluentLimit → on (after (printMasks a) state) i ≡ (eqb i a || on state i)
-on-printed a state i h = on-after (printMasks a) state i h ∙ rw (on-pow, on-none, and-true)
+on-printed a state i h = plain-bit (lowerOf a) 0 (2 ^ a) 0 state i h ∙ rw (on-pow, on-none, and-true)
 
 on-voided : (cartons state i : ℕ) → i < fluentLimit → i < cartons → on (after (voidMasks cartons) state) i ≡ false
-on-voided cartons state i h l = on-after (voidMasks cartons) state i h ∙ rw (on-none, on-ones, lt-ltb i cartons l, and-false)
+on-voided cartons state i h l = plain-bit 0 0 0 (lowerOf cartons) state i h ∙ rw (on-none, on-ones, lt-ltb i cartons l, and-false)
 
 module _ (cartons : ℕ) (log : List ℕ) where
   -- one step more: a print of the label, a print of any, a void

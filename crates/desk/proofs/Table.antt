@@ -1,25 +1,27 @@
 -- The table of the labels' theory, filled row by row, and what its masks name. Knows lists and bits; no code.
-use mathlib.Core.Path.{_≡_, sym, ap, subst, _∙_}
-use mathlib.Core.Logic.{_⊎_, inl, inr, ⊎-elim}
+use mathlib.Core.Path.{_≡_, refl, sym, ap, subst, _∙_}
 use mathlib.Core.Bool.{true}
-use mathlib.Core.List.{List}
-use Prim.Native.Nat.{ℕ, _+_, _*_, _/_, _%_, _^_, _≤_, _<_}
+use mathlib.Core.List.{List, [], _∷_, _++_}
+use Prim.Native.Nat.{ℕ, zero, suc, _+_, _*_, _/_, _%_, _^_, _≤_, _<_}
 use native.Mathlib.Nat.{one-mul, mod-eq-of-lt, min-le-right}
-use native.Mathlib.Decide.{ℕ-discrete, decLt}
+use native.Mathlib.Decide.{ℕ-discrete}
 use native.Mathlib.Omega.{arith}
 use borrow.Author.Tests.{ltb-true, eqb-true}
-use lib.ListN.{length, getD, set, take, length-set, length-take}
+use lib.ListN.{length, getD, set, take, length-take}
 use lib.Pow.{pow-lt, pow-pos}
-use lib.Seq.{getD-set-same, getD-set-other, getD-take, length-take-le}
+use lib.Seq.{getD-take, length-take-le}
 use Rattle.laws.specs.Bit.{on}
 use Rattle.laws.proofs.On.{on-none}
 use Rattle.laws.proofs.Shift.{on-pow, on-ones}
 use Rattle.laws.proofs.Truth.{off-on}
 use Rattle.meaning.specs.Limits.{fluentLimit}
-use Rattle.meaning.specs.Theory.{Masks, masksOf, stride}
+use Rattle.meaning.specs.Theory.{Clause, Masks, stride}
+use Rattle.meaning.specs.Four.{plainMasks}
 use Rattle.theory.specs.Subject.{tableMasks}
+use Rattle.theory.specs.Plain.{plainRow, overwritten}
+use Rattle.theory.proofs.Plain.{same-row, over-long, row-here, row-others, every-at, every-row}
 use Rattle.desk.specs.Log.{cartonLimit}
-use Rattle.desk.specs.Labels.{lowerOf, printMasks, voidMasks, RowSet, LabelTheory, tableRoom}
+use Rattle.desk.specs.Labels.{lowerOf, printMasks, voidMasks, LabelTheory, tableRoom}
 
 -- `1 << k` of the labels
 pub own-mask : (k : ℕ) → k ≤ cartonLimit → 1 * 2 ^ k % 2 ^ fluentLimit ≡ 2 ^ k
@@ -29,65 +31,24 @@ pub own-some : (k : ℕ) → k ≤ cartonLimit → 1 ≤ 1 * 2 ^ k % 2 ^ fluentL
 own-some k h = rw (own-mask k h) (pow-pos k)
 
 -- four masks that are equal one by one
-pub same-masks : {a b c d a′ b′ c′ d′ : ℕ} → a ≡ a′ → b ≡ b′ → c ≡ c′ → d ≡ d′ → masksOf a b c d ≡ masksOf a′ b′ c′ d′
+pub same-masks : {a b c d a′ b′ c′ d′ : ℕ} → a ≡ a′ → b ≡ b′ → c ≡ c′ → d ≡ d′ → plainMasks a b c d ≡ plainMasks a′ b′ c′ d′
 same-masks e f g h = cc
 
--- the four places of a row are written, one after the other
-module _ (masks : List ℕ) (action need ban put drop : ℕ) where
-  abbrev at : ℕ
-  at = stride * action
+-- one row of the table is written, and the others are as they were
+pub record RowSet (before : List ℕ) (action : ℕ) (row : Masks) (after : List ℕ) : Type 0 where
+  pub room : length after ≡ length before
+  pub here : tableMasks after action ≡ row
+  pub others : (other : ℕ) → (other ≡ action → ⊥) → tableMasks after other ≡ tableMasks before other
 
-  abbrev written : List ℕ
-  written = set (set (set (set masks at need) (at + 1) ban) (at + 2) put) (at + 3) drop
-
-  away : (k : ℕ) → (k < at) ⊎ (at + 3 < k) → getD written k 0 ≡ getD masks k 0
-  away k out =
-      getD-set-other (set (set (set masks at need) (at + 1) ban) (at + 2) put) (at + 3) k drop 0 (differ (at + 3) (omega arith) (omega arith))
-      ∙ getD-set-other (set (set masks at need) (at + 1) ban) (at + 2) k put 0 (differ (at + 2) (omega arith) (omega arith))
-      ∙ getD-set-other (set masks at need) (at + 1) k ban 0 (differ (at + 1) (omega arith) (omega arith))
-      ∙ getD-set-other masks at k need 0 (differ at (omega arith) (omega arith))
-    where
-      differ : (j : ℕ) → at ≤ j → j ≤ at + 3 → k ≡ j → ⊥
-      differ j low high e = ⊎-elim (λ h. omega arith) (λ h. omega arith) out
-
-  pub row-set : action ≤ cartonLimit → length masks ≡ tableRoom → RowSet masks action (masksOf need ban put drop) written
-  row-set few room = record { room = third ∙ second ∙ first ∙ length-set masks at need; here = four; others = other-row }
-    where
-      first : length (set (set masks at need) (at + 1) ban) ≡ length (set masks at need)
-      first = length-set (set masks at need) (at + 1) ban
-
-      second : length (set (set (set masks at need) (at + 1) ban) (at + 2) put) ≡ length (set (set masks at need) (at + 1) ban)
-      second = length-set (set (set masks at need) (at + 1) ban) (at + 2) put
-
-      third : length written ≡ length (set (set (set masks at need) (at + 1) ban) (at + 2) put)
-      third = length-set (set (set (set masks at need) (at + 1) ban) (at + 2) put) (at + 3) drop
-
-      zeroth : length (set masks at need) ≡ length masks
-      zeroth = length-set masks at need
-
-      four : tableMasks written action ≡ masksOf need ban put drop
-      four =
-          same-masks
-          (getD-set-other (set (set (set masks at need) (at + 1) ban) (at + 2) put) (at + 3) at drop 0 (λ e. omega arith)
-          ∙ getD-set-other (set (set masks at need) (at + 1) ban) (at + 2) at put 0 (λ e. omega arith)
-          ∙ getD-set-other (set masks at need) (at + 1) at ban 0 (λ e. omega arith)
-          ∙ getD-set-same masks at need 0 (omega arith))
-          (getD-set-other (set (set (set masks at need) (at + 1) ban) (at + 2) put) (at + 3) (at + 1) drop 0 (λ e. omega arith)
-          ∙ getD-set-other (set (set masks at need) (at + 1) ban) (at + 2) (at + 1) put 0 (λ e. omega arith)
-          ∙ getD-set-same (set masks at need) (at + 1) ban 0 (omega (arith, zeroth)))
-          (getD-set-other (set (set (set masks at need) (at + 1) ban) (at + 2) put) (at + 3) (at + 2) drop 0 (λ e. omega arith)
-          ∙ getD-set-same (set (set masks at need) (at + 1) ban) (at + 2) put 0 (omega (arith, zeroth, first)))
-          (getD-set-same (set (set (set masks at need) (at + 1) ban) (at + 2) put) (at + 3) drop 0 (omega (arith, zeroth, first, second)))
-
-      other-row : (b : ℕ) → (b ≡ action → ⊥) → tableMasks written b ≡ tableMasks masks b
-      other-row b other =
-          same-masks (away (stride * b) (beside (stride * b) (omega arith) (omega arith)))
-          (away (stride * b + 1) (beside (stride * b + 1) (omega arith) (omega arith)))
-          (away (stride * b + 2) (beside (stride * b + 2) (omega arith) (omega arith)))
-          (away (stride * b + 3) (beside (stride * b + 3) (omega arith) (omega arith)))
-        where
-          beside : (k : ℕ) → stride * b ≤ k → k ≤ stride * b + 3 → (k < at) ⊎ (at + 3 < k)
-          beside k low high = elim (decLt b action) [ yes before ↦ inl (omega arith) | no behind ↦ inr (omega (arith, other)) ]
+pub row-set : (before after : List ℕ) (action need ban put drop : ℕ) → action ≤ cartonLimit → length before ≡ tableRoom
+    → after ≡ overwritten before (stride * action) (plainRow need ban put drop) → RowSet before action (plainMasks need ban put drop) after
+row-set before after action need ban put drop few room e =
+    let fits : stride * action + stride ≤ length before = omega arith in
+    record {
+      room = ap length e ∙ over-long before (stride * action) (plainRow need ban put drop) fits;
+      here = ap (λ (m : List ℕ). tableMasks m action) e ∙ row-here before action need ban put drop fits;
+      others = λ other apart. ap (λ (m : List ℕ). tableMasks m other) e ∙ row-others before action need ban put drop fits other apart;
+    }
 
 -- the rows of the prints below a are filled
 pub record Filled (masks : List ℕ) (a : ℕ) : Type 0 where
@@ -110,12 +71,7 @@ filled-more {after = after} {a = a} set right filled =
 
 -- a row of the front of the table
 front-row : (masks : List ℕ) (n b : ℕ) → b < n → tableMasks (take (stride * n) masks) b ≡ tableMasks masks b
-front-row masks n b h =
-    same-masks
-    (getD-take (stride * n) masks (stride * b) 0 (omega arith))
-    (getD-take (stride * n) masks (stride * b + 1) 0 (omega arith))
-    (getD-take (stride * n) masks (stride * b + 2) 0 (omega arith))
-    (getD-take (stride * n) masks (stride * b + 3) 0 (omega arith))
+front-row masks n b h = same-row (take (stride * n) masks) masks b b (λ i l. getD-take (stride * n) masks (stride * b + i) 0 (omega arith))
 
 -- and the void behind them
 pub filled-all : {masks after : List ℕ} {cartons : ℕ} {row : Masks} → cartons ≤ cartonLimit → RowSet masks cartons row after → row ≡ voidMasks cartons
@@ -143,43 +99,45 @@ module _ (cartons : ℕ) (masks : List ℕ) (labels : LabelTheory cartons masks)
   own : (mask a : ℕ) → a < cartons → mask ≡ 2 ^ a → Low cartons mask
   own mask a h e i b = let same : i ≡ a = eqb-true i a (sym (on-pow a i) ∙ sym (ap (λ (m : ℕ). on m i) e) ∙ b) in omega arith
 
-  row-low : (a : ℕ) → a ≤ cartons
-      → Low cartons (tableMasks masks a .need) × Low cartons (tableMasks masks a .ban) × Low cartons (tableMasks masks a .put) × Low cartons (tableMasks masks a .drop)
-  row-low a h = elim (ℕ-discrete a cartons) [
-    | yes e ↦
-        let row : tableMasks masks a ≡ voidMasks cartons = ap (tableMasks masks) e ∙ labels .voids in (
-          none _ (ap (λ (m : Masks). m .need) row),
-          none _ (ap (λ (m : Masks). m .ban) row),
-          none _ (ap (λ (m : Masks). m .put) row),
-          lower _ cartons (omega arith) (ap (λ (m : Masks). m .drop) row),
-        )
-    | no other ↦
-        let row = labels .prints a (omega arith) in (
-          lower _ a h (ap (λ (m : Masks). m .need) row),
-          none _ (ap (λ (m : Masks). m .ban) row),
-          own _ a (omega arith) (ap (λ (m : Masks). m .put) row),
-          none _ (ap (λ (m : Masks). m .drop) row),
-        )
-  ]
+  -- so does each of a row from four masks
+  row-low : (need ban put drop : ℕ) → Low cartons need → Low cartons ban → Low cartons put → Low cartons drop → (i : ℕ) → Low cartons (getD (plainRow need ban put drop) i 0)
+  row-low need ban put drop n b p d = every-at (Low cartons) (plainRow need ban put drop) (none 0 refl) (every-row (Low cartons) need ban put drop (none 0 refl) n b p d)
+
+  -- the masks of an action one after the other, as they stand in the table
+  abbrev four : Clause → List ℕ
+  four c = c .when ∷ c .unless ∷ c .put ∷ c .drop ∷ []
+
+  abbrev listed : Masks → List ℕ
+  listed m = m .need ∷ m .ban ∷ (four (m .one) ++ four (m .two))
+
+  row-listed : (a i : ℕ) → i < stride → getD masks (stride * a + i) 0 ≡ getD (listed (tableMasks masks a)) i 0
+  row-listed a zero l = let e : stride * a + 0 ≡ stride * a = omega arith in ap (λ (n : ℕ). getD masks n 0) e
+  row-listed a (suc zero) l = let e : stride * a + 1 ≡ stride * a + 1 = omega arith in ap (λ (n : ℕ). getD masks n 0) e
+  row-listed a (suc (suc zero)) l = let e : stride * a + 2 ≡ stride * a + 2 = omega arith in ap (λ (n : ℕ). getD masks n 0) e
+  row-listed a (suc (suc (suc zero))) l = let e : stride * a + 3 ≡ stride * a + 2 + 1 = omega arith in ap (λ (n : ℕ). getD masks n 0) e
+  row-listed a (suc (suc (suc (suc zero)))) l = let e : stride * a + 4 ≡ stride * a + 2 + 2 = omega arith in ap (λ (n : ℕ). getD masks n 0) e
+  row-listed a (suc (suc (suc (suc (suc zero))))) l = let e : stride * a + 5 ≡ stride * a + 2 + 3 = omega arith in ap (λ (n : ℕ). getD masks n 0) e
+  row-listed a (suc (suc (suc (suc (suc (suc zero)))))) l = let e : stride * a + 6 ≡ stride * a + 6 = omega arith in ap (λ (n : ℕ). getD masks n 0) e
+  row-listed a (suc (suc (suc (suc (suc (suc (suc zero))))))) l = let e : stride * a + 7 ≡ stride * a + 6 + 1 = omega arith in ap (λ (n : ℕ). getD masks n 0) e
+  row-listed a (suc (suc (suc (suc (suc (suc (suc (suc zero)))))))) l = let e : stride * a + 8 ≡ stride * a + 6 + 2 = omega arith in ap (λ (n : ℕ). getD masks n 0) e
+  row-listed a (suc (suc (suc (suc (suc (suc (suc (suc (suc zero))))))))) l = let e : stride * a + 9 ≡ stride * a + 6 + 3 = omega arith in ap (λ (n : ℕ). getD masks n 0) e
+  row-listed a (suc (suc (suc (suc (suc (suc (suc (suc (suc (suc i)))))))))) l = absurd (omega arith)
 
   pub all-low : (place : ℕ) → place < length masks → Low cartons (getD masks place 0)
   all-low place h =
       let room = labels .table in
-      let a : ℕ = place / 4 in
-      let row = row-low a (omega arith) in
-      elim (ℕ-discrete place (stride * a)) [
-        | yes e ↦ at e (row .0)
-        | no f ↦ elim (ℕ-discrete place (stride * a + 1)) [
-          | yes e ↦ at e (row .1)
-          | no g ↦ elim (ℕ-discrete place (stride * a + 2)) [
-            | yes e ↦ at e (row .2)
-            | no h ↦ at (omega arith) (row .3)
-          ]
-        ]
-      ]
-    where
-      at : {k : ℕ} → place ≡ k → Low cartons (getD masks k 0) → Low cartons (getD masks place 0)
-      at e low = subst (λ (k : ℕ). Low cartons (getD masks k 0)) (sym e) low
+      let a : ℕ = place / stride in
+      let i : ℕ = place % stride in
+      let split : place ≡ stride * a + i = omega arith in
+      let here : getD masks place 0 ≡ getD (listed (tableMasks masks a)) i 0 = ap (λ (n : ℕ). getD masks n 0) split ∙ row-listed a i (omega arith) in
+      subst (Low cartons) (sym here) (elim (ℕ-discrete a cartons) [
+        | yes e ↦
+            let row : tableMasks masks a ≡ voidMasks cartons = ap (tableMasks masks) e ∙ labels .voids in
+            subst (λ (m : Masks). Low cartons (getD (listed m) i 0)) (sym row) (row-low 0 0 0 (lowerOf cartons) (none 0 refl) (none 0 refl) (none 0 refl) (lower _ cartons (omega arith) refl) i)
+        | no other ↦
+            let row = labels .prints a (omega arith) in
+            subst (λ (m : Masks). Low cartons (getD (listed m) i 0)) (sym row) (row-low (lowerOf a) 0 (2 ^ a) 0 (lower _ a (omega arith) refl) (none 0 refl) (own _ a (omega arith) refl) (none 0 refl) i)
+      ])
 
 -- the room holds the table
 pub holds-table : (cartons : ℕ) (room : List ℕ) → LabelTheory cartons (take (stride * (cartons + 1)) room) → stride * (cartons + 1) ≤ length room

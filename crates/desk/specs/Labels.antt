@@ -7,7 +7,8 @@ use Prim.Native.Nat.{ℕ, _+_, _-_, _*_, _^_, _<_}
 use lib.Dec.{ltb}
 use lib.ListN.{length}
 use Rattle.laws.specs.Bit.{on, firstBelow}
-use Rattle.meaning.specs.Theory.{Masks, masksOf, stride}
+use Rattle.meaning.specs.Theory.{Masks, stride}
+use Rattle.meaning.specs.Four.{plainMasks}
 use Rattle.theory.specs.Subject.{Subject, subjectOf, settingOf, tableMasks}
 use Rattle.desk.specs.Log.{cartonLimit, labelOf, voidOf}
 
@@ -17,22 +18,16 @@ lowerOf action = 2 ^ action - 1
 
 -- a print needs all lower labels, bans nothing, puts its own and drops nothing
 abbrev pub printMasks : ℕ → Masks
-printMasks action = masksOf (lowerOf action) 0 (2 ^ action) 0
+printMasks action = plainMasks (lowerOf action) 0 (2 ^ action) 0
 
 -- "action C voids all"
 abbrev pub voidMasks : ℕ → Masks
-voidMasks cartons = masksOf 0 0 0 (lowerOf (voidOf cartons))
+voidMasks cartons = plainMasks 0 0 0 (lowerOf (voidOf cartons))
 
 pub record LabelTheory (cartons : ℕ) (masks : List ℕ) : Type 0 where
   pub table : length masks ≡ stride * (cartons + 1)
   pub prints : (action : ℕ) → action < cartons → tableMasks masks action ≡ printMasks action
   pub voids : tableMasks masks (voidOf cartons) ≡ voidMasks cartons
-
--- one row of the table is written, and the others are as they were
-pub record RowSet (before : List ℕ) (action : ℕ) (row : Masks) (after : List ℕ) : Type 0 where
-  pub room : length after ≡ length before
-  pub here : tableMasks after action ≡ row
-  pub others : (other : ℕ) → (other ≡ action → ⊥) → tableMasks after other ≡ tableMasks before other
 
 -- how many masks the table of the most cartons has
 abbrev pub tableRoom : ℕ

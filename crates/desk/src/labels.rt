@@ -4,15 +4,16 @@ ghost use mathlib.Core.Logic.{_↔_};
 ghost use mathlib.Core.Bool.{true};
 ghost use Prim.Native.Nat.{_+_, _*_, _≤_};
 ghost use lib.ListN.{length, take};
-ghost use Rattle.meaning.specs.Theory.{masksOf, stride};
+ghost use Rattle.meaning.specs.Theory.{stride};
 ghost use Rattle.theory.specs.Subject.{settingOf};
 ghost use Rattle.desk.specs.Log.{cartonLimit};
 ghost use Rattle.desk.specs.Answer.{BadCartons, BadLabel};
-ghost use Rattle.desk.specs.Labels.{RowSet, LabelTheory, tableRoom, lowestOff};
+ghost use Rattle.desk.specs.Labels.{LabelTheory, tableRoom, lowestOff};
 use crate::CARTON_LIMIT;
 use theory::Counts;
 use theory::STRIDE;
 use theory::Setting;
+use theory::rows::plain_row;
 
 // A row for each print, and one for the void.
 pub const ROOM: usize = STRIDE * (CARTON_LIMIT + 1);
@@ -50,18 +51,6 @@ pub(crate) fn setting(cartons: usize) -> Setting
     Setting { counts, start: 0 }
 }
 
-// The four masks of one action.
-fn row(masks: &mut [u32; ROOM], action: usize, need: u32, ban: u32, put: u32, drop: u32)
-    requires { ⌜ (action ≤ cartonLimit) × (length (now masks) ≡ tableRoom) ⌝ }
-    ensures { λ _. ⌜ RowSet (now (masks .entry)) action (masksOf need ban put drop) (now (masks .exit)) ⌝ }
-{
-    let at = STRIDE * action;
-    masks[at] = need;
-    masks[at + 1] = ban;
-    masks[at + 2] = put;
-    masks[at + 3] = drop;
-}
-
 // The table, in the front of the room: a print needs the lower labels and puts its own, the void drops all.
 pub(crate) fn fill(cartons: usize, masks: &mut [u32; ROOM])
     requires { ⌜ (cartons ≤ cartonLimit) × (length (now masks) ≡ tableRoom) ⌝ }
@@ -71,12 +60,12 @@ pub(crate) fn fill(cartons: usize, masks: &mut [u32; ROOM])
     while a < cartons {
         let own = 1u32 << a;
         let lower = own - 1;
-        row(masks, a, lower, 0, own, 0);
+        plain_row(masks, a, lower, 0, own, 0);
         a += 1;
     }
     let beyond = 1u32 << cartons;
     let all = beyond - 1;
-    row(masks, cartons, 0, 0, 0, all);
+    plain_row(masks, cartons, 0, 0, 0, all);
 }
 
 // The first label that is off in the state; 0 where none of them is.

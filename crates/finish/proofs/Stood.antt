@@ -1,7 +1,7 @@
 -- The actions that a smaller one stands in for: the laws of the functions that look for them, and what the search has of it. Knows words and masks.
 use mathlib.Core.Path.{_≡_, refl, sym, ap, subst, _∙_}
-use mathlib.Core.Logic.{_⊎_, inl, inr}
-use mathlib.Core.Bool.{Bool, true, false, not, _&&_, _||_, xor}
+use mathlib.Core.Logic.{_⊎_, inl, inr, ⊎-elim}
+use mathlib.Core.Bool.{Bool, true, false, not, _&&_, xor}
 use mathlib.Core.List.{List, _∷_, _++_}
 use Prim.Native.Nat.{ℕ, _+_, _-_, _*_, _%_, _^_, _≤_, _<_}
 use native.Mathlib.Decide.{ℕ-discrete, decLt}
@@ -11,15 +11,16 @@ use lib.Dec.{ltb}
 use lib.ListN.{length, length-append, getD, List·getD-eq-default}
 use borrow.Author.Tests.{eq-eqb, ne-eqb, lt-ltb}
 use Rattle.laws.specs.Bit.{on}
-use Rattle.laws.proofs.Truth.{off-on, and-iff, or-iff}
+use Rattle.laws.proofs.Truth.{off-on, and-iff, or-iff, neither}
 use Rattle.laws.proofs.On.{on-none, on-high}
 use Rattle.laws.proofs.Bitwise.{on-and, on-or, on-xor}
 use Rattle.laws.proofs.Shift.{on-not, on-one-shl, on-ones}
 use Rattle.meaning.specs.Limits.{actionLimit, fluentLimit}
-use Rattle.meaning.specs.Theory.{masksOf, stride}
+use Rattle.meaning.specs.Theory.{Clause, Masks, clauseOf, stride}
 use Rattle.meaning.specs.Rule.{Walk, plain}
-use Rattle.meaning.specs.StandIn.{among, NamesNone, Idle, Alike, StandsIn}
+use Rattle.meaning.specs.StandIn.{among, NamesNone, Decides, Idle, SameClause, StandsIn}
 use Rattle.meaning.proofs.StandIn.{stand-in-leads, stand-in-able}
+use Rattle.meaning.proofs.Measured.{or-left, or-right}
 use Rattle.spelling.specs.declared.Digits.the-variants.{Number, Other}
 use Rattle.spelling.specs.Scan.{NumberAt}
 use Rattle.spelling.proofs.Determined.{two-digits-determined}
@@ -91,33 +92,35 @@ module _ (text : List ℕ) where
     ];
   }
 
--- the fluents of needs and bans, an action after the other
+-- the fluents of an action's conditions, in one word
+pub decides-word : (m : Masks) (i : ℕ) → Decides m i
+    → on (bitOr (bitOr (m .need) (m .ban)) (bitOr (bitOr (m .one .when) (m .one .unless)) (bitOr (m .two .when) (m .two .unless)))) i ≡ true
+decides-word m i =
+    ⊎-elim (λ h. or-left (bitOr (m .need) (m .ban)) acting i (either (m .need) (m .ban) h))
+    (λ h. or-right (bitOr (m .need) (m .ban)) acting i
+    (⊎-elim (λ k. or-left (asks (m .one)) (asks (m .two)) i (either (m .one .when) (m .one .unless) k)) (λ k. or-right (asks (m .one)) (asks (m .two)) i (either (m .two .when) (m .two .unless) k)) h))
+  where
+    asks : Clause → ℕ
+    asks c = bitOr (c .when) (c .unless)
+
+    acting : ℕ
+    acting = bitOr (asks (m .one)) (asks (m .two))
+
+    either : (a b : ℕ) → (on a i ≡ true) ⊎ (on b i ≡ true) → on (bitOr a b) i ≡ true
+    either a b = ⊎-elim (or-left a b i) (or-right a b i)
+
+-- an action after the other
 module _ (masks : List ℕ) where
   pub decisive-none : Decisive masks 0 0
-  decisive-none = record { needed = λ a i low h. absurd (omega arith); banned = λ a i low h. absurd (omega arith) }
+  decisive-none = record { each = λ a i low. absurd (omega arith) }
 
-  pub decisive-more : (k all : ℕ) → Decisive masks k all
-      → Decisive masks (k + 1) (bitOr all (bitOr (tableMasks masks k .need) (tableMasks masks k .ban)))
-  decisive-more k all d = record {
-    needed = λ a i low h. into i (elim (ℕ-discrete a k) [
-      | yes e ↦ inr (inl (subst (λ (j : ℕ). on (tableMasks masks j .need) i ≡ true) e h))
-      | no e ↦ inl (d .needed a i (omega arith) h)
-    ]);
-    banned = λ a i low h. into i (elim (ℕ-discrete a k) [
-      | yes e ↦ inr (inr (subst (λ (j : ℕ). on (tableMasks masks j .ban) i ≡ true) e h))
-      | no e ↦ inl (d .banned a i (omega arith) h)
-    ]);
+  pub decisive-more : (k all here : ℕ) → ((i : ℕ) → Decides (tableMasks masks k) i → on here i ≡ true) → Decisive masks k all → Decisive masks (k + 1) (bitOr all here)
+  decisive-more k all here held d = record {
+    each = λ a i low h. elim (ℕ-discrete a k) [
+      | yes e ↦ or-right all here i (held i (subst (λ (j : ℕ). Decides (tableMasks masks j) i) e h))
+      | no e ↦ or-left all here i (d .each a i (omega arith) h)
+    ];
   }
-    where
-      need : ℕ
-      need = tableMasks masks k .need
-
-      ban : ℕ
-      ban = tableMasks masks k .ban
-
-      into : (i : ℕ) → (on all i ≡ true) ⊎ ((on need i ≡ true) ⊎ (on ban i ≡ true)) → on (bitOr all (bitOr need ban)) i ≡ true
-      into i (inl h) = on-or all (bitOr need ban) i ∙ or-iff (on all i) (on (bitOr need ban) i) .1 (inl h)
-      into i (inr h) = on-or all (bitOr need ban) i ∙ or-iff (on all i) (on (bitOr need ban) i) .1 (inr (on-or need ban i ∙ or-iff (on need i) (on ban i) .1 h))
 
 -- nothing that matters is put by one alone, or dropped by one alone
 module _ (put drop put′ drop′ matter : ℕ) (fits : put < 2 ^ fluentLimit) (fits′ : put′ < 2 ^ fluentLimit) (small : matter < 2 ^ actionLimit) where
@@ -127,11 +130,11 @@ module _ (put drop put′ drop′ matter : ℕ) (fits : put < 2 ^ fluentLimit) (
   abbrev Differ : ℕ
   Differ = bitOr (bitXor put put′) (bitXor (Dropped drop put) (Dropped drop′ put′))
 
-  pub effects-alike : bitAnd Differ matter ≡ 0 → (need ban : ℕ) → Alike (others matter) (masksOf need ban put drop) (masksOf need ban put′ drop′)
+  pub effects-alike : bitAnd Differ matter ≡ 0 → (when unless : ℕ) → SameClause (others matter) (clauseOf when unless put drop) (clauseOf when unless put′ drop′)
   unfolding xor
-  effects-alike none need ban = record {
-    need = refl;
-    ban = refl;
+  effects-alike none when unless = record {
+    when = refl;
+    unless = refl;
     put = λ i l e. same (on put i) (on put′ i) (parts i l e .0);
     drop = λ i l e p.
         let q : on put′ i ≡ false = sym (same (on put i) (on put′ i) (parts i l e .0)) ∙ p in
@@ -156,16 +159,12 @@ module _ (put drop put′ drop′ matter : ℕ) (fits : put < 2 ^ fluentLimit) (
       first-off true b h e = sym e ∙ h
       first-off false b h e = refl
 
-      halves : (a b : Bool) → (a || b) ≡ false → (a ≡ false) × (b ≡ false)
-      halves true b h = (h, absurd (off-on h refl))
-      halves false b h = (refl, h)
-
       parts : (i : ℕ) → i < fluentLimit → on (others matter) i ≡ false
           → (xor (on put i) (on put′ i) ≡ false) × (xor (on (Dropped drop put) i) (on (Dropped drop′ put′) i) ≡ false)
       parts i l e =
           let held : on matter i ≡ true = word-holds matter i small (omega arith) e in
           let off : on Differ i ≡ false = first-off (on Differ i) (on matter i) (sym (on-and Differ matter i) ∙ ap (λ (n : ℕ). on n i) none ∙ on-none i) held in
-          let two = halves (on (bitXor put put′) i) (on (bitXor (Dropped drop put) (Dropped drop′ put′)) i) (sym (on-or _ _ i) ∙ off) in
+          let two = neither (on (bitXor put put′) i) (on (bitXor (Dropped drop put) (Dropped drop′ put′)) i) (sym (on-or _ _ i) ∙ off) in
           (sym (on-xor put put′ i) ∙ two .0, sym (on-xor (Dropped drop put) (Dropped drop′ put′) i) ∙ two .1)
 
 -- All actions, and of the first k those that no smaller one stands in for
@@ -239,24 +238,21 @@ stand-in-completes s masks x unnamed idle a b quiet none h = record {
       };
 }
 
--- a fluent of no need and no ban of the table
+-- a fluent of no condition of the table
 pub idle-others : (masks : List ℕ) (actions fluents decide : ℕ) → Table actions masks → Decisive masks actions decide → Idle (tableMasks masks) (others (bitOr fluents decide))
-idle-others masks actions fluents decide table d = record {
-  needed = λ a i h. others-lack (bitOr fluents decide) i (into i (elim (decLt a actions) [
-    | yes l ↦ d .needed a i l h
-    | no l ↦ absurd (off-on (blank (stride * a) i (omega arith)) h)
-  ]));
-  banned = λ a i h. others-lack (bitOr fluents decide) i (into i (elim (decLt a actions) [
-    | yes l ↦ d .banned a i l h
-    | no l ↦ absurd (off-on (blank (stride * a + 1) i (omega arith)) h)
-  ]));
-}
+idle-others masks actions fluents decide table d a i h = others-lack (bitOr fluents decide) i (or-right fluents decide i (elim (decLt a actions) [
+  | yes l ↦ d .each a i l h
+  | no l ↦ absurd (beyond (omega arith) h)
+]))
   where
-    blank : (k i : ℕ) → stride * actions ≤ k → on (getD masks k 0) i ≡ false
-    blank k i high = rw (List·getD-eq-default masks 0 {n = k} (omega arith)) (on-none i)
+    blank : (k : ℕ) → stride * actions ≤ k → on (getD masks k 0) i ≡ true → ⊥
+    blank k high = off-on (rw (List·getD-eq-default masks 0 {n = k} (omega arith)) (on-none i))
 
-    into : (i : ℕ) → on decide i ≡ true → on (bitOr fluents decide) i ≡ true
-    into i h = on-or fluents decide i ∙ or-iff (on fluents i) (on decide i) .1 (inr h)
+    beyond : actions ≤ a → Decides (tableMasks masks a) i → ⊥
+    beyond high =
+        ⊎-elim (⊎-elim (blank (stride * a) (omega arith)) (blank (stride * a + 1) (omega arith)))
+        (⊎-elim (⊎-elim (blank (stride * a + 2) (omega arith)) (blank (stride * a + 2 + 1) (omega arith)))
+        (⊎-elim (blank (stride * a + 6) (omega arith)) (blank (stride * a + 6 + 1) (omega arith))))
 
 -- every action is worth trying; or all but those that are sifted out
 pub all-worth : (s : Setting) (masks job : List ℕ) → s .counts .actions ≤ actionLimit → Worth s masks job (2 ^ actionLimit - 1)

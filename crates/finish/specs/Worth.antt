@@ -8,7 +8,7 @@ use lib.ListN.{getD}
 use Rattle.laws.specs.Bit.{on}
 use Rattle.meaning.specs.Limits.{actionLimit}
 use Rattle.meaning.specs.Rule.{Walk}
-use Rattle.meaning.specs.StandIn.{Alike, StandsIn}
+use Rattle.meaning.specs.StandIn.{Decides, Alike, StandsIn}
 use Rattle.spelling.specs.declared.Digits.the-variants.{Number}
 use Rattle.spelling.specs.Scan.{NumberAt}
 use Rattle.theory.specs.Subject.{subjectOf, tableMasks, worldOf}
@@ -35,10 +35,9 @@ Sum sign = (sign ≡ 98) ⊎ (sign ≡ 103) ⊎ (sign ≡ 115)
 pub record Unsummed (text : List ℕ) (k : ℕ) : Type 0 where
   pub each : (at : ℕ) → at < k → Sum (getD text at 0) → ⊥
 
--- the word holds each fluent of a need or a ban of the first k actions
+-- the word holds each fluent of a need, a ban, a when or an unless of the first k actions
 pub record Decisive (masks : List ℕ) (k word : ℕ) : Type 0 where
-  pub needed : (a i : ℕ) → a < k → on (tableMasks masks a .need) i ≡ true → on word i ≡ true
-  pub banned : (a i : ℕ) → a < k → on (tableMasks masks a .ban) i ≡ true → on word i ≡ true
+  pub each : (a i : ℕ) → a < k → Decides (tableMasks masks a) i → on word i ≡ true
 
 -- one of these actions, smaller than b, is like it on the fluents that matter
 pub record Like (masks : List ℕ) (these matter b : ℕ) : Type 0 where

@@ -27,13 +27,14 @@ pub struct Turning {
     pub offs: u32,
 }
 
-// What drop names and put does not, for put wins.
+// What a clause drops and does not put, for put wins.
 fn dropped(put: u32, drop: u32) -> u32
     ensures { λ r. ⌜ ((i : ℕ) → i < fluentLimit → on drop i ≡ true → on put i ≡ false → on r i ≡ true) ⌝ }
 {
     drop & !put
 }
 
+// Whatever a clause of an action can turn, whether it acts or not.
 fn turns(actions: usize, masks: &[u32], state: u32) -> Turning
     requires { ⌜ Table actions (now masks) ⌝ }
     ensures { λ r. ⌜ Reaching actions (tableMasks (now (masks .entry))) state (r .ons) (r .offs) ⌝ }
@@ -43,11 +44,16 @@ fn turns(actions: usize, masks: &[u32], state: u32) -> Turning
     let mut a = 0;
     while a < actions {
         let row = STRIDE * a;
-        let put = masks[row + 2];
-        let drop = masks[row + 3];
+        let one = row + 2;
+        let two = row + 6;
+        let put = masks[one + 2];
+        let drop = masks[one + 3];
+        let put2 = masks[two + 2];
+        let drop2 = masks[two + 3];
         let gone = dropped(put, drop);
-        ons = ons | put;
-        offs = offs | gone;
+        let gone2 = dropped(put2, drop2);
+        ons = ons | (put | put2);
+        offs = offs | (gone | gone2);
         a += 1;
     }
     Turning {

@@ -1,17 +1,17 @@
-// Actions that a smaller one stands in for: the job names neither, both are possible in the same states, and both do the same to every fluent that
-// matters (named in the job, or in any need or ban). Of the sequences that finish, the first has none of them: with the smaller action in its place it
-// would come earlier. A job with a variable in a name is taken to name all. Knows the mask table and the job's text; no log.
+// Actions that a smaller one stands in for: the job names neither, both are possible in the same states, their clauses act in the same states, and both do the
+// same to every fluent that matters (named in the job, or in any need, ban, when or unless). Of the sequences that finish, the first has none of them: with the
+// smaller action in its place it would come earlier. A job with a variable in a name is taken to name all. Knows the mask table and the job's text; no log.
 ghost use mathlib.Core.Path.{_≡_};
 ghost use mathlib.Core.Bool.{true, false};
 ghost use Prim.Native.Nat.{ℕ, _+_, _*_, _≤_, _<_};
 ghost use lib.ListN.{length};
 ghost use Rattle.laws.specs.Bit.{on};
 ghost use Rattle.meaning.specs.Limits.{actionLimit};
-ghost use Rattle.meaning.specs.Theory.{stride, masksOf};
-ghost use Rattle.meaning.specs.StandIn.{Alike};
+ghost use Rattle.meaning.specs.Theory.{stride, clauseOf};
+ghost use Rattle.meaning.specs.StandIn.{Decides, SameClause, Alike};
 ghost use Rattle.spelling.specs.declared.Digits.the-variants.{Number};
 ghost use Rattle.spelling.specs.Scan.{NumberAt};
-ghost use Rattle.theory.specs.Subject.{tableMasks};
+ghost use Rattle.theory.specs.Subject.{clauseAt, tableMasks};
 ghost use Rattle.finish.specs.Sound.{Table};
 ghost use Rattle.finish.specs.Worth.{others, Behind, Named, Sum, Unsummed, Decisive, Like, Sifted, Worth};
 use spelling::Digits;
@@ -63,7 +63,27 @@ fn named(text: &[u8], one: u8, other: u8) -> u64
     all
 }
 
-// The fluents in any need or ban.
+// The fluents in a need, a ban, a when or an unless of action a.
+fn deciding(masks: &[u32], a: usize) -> u32
+    requires { ⌜ stride * a + stride ≤ length (now masks) ⌝ }
+    ensures { λ r. ⌜ ((i : ℕ) → Decides (tableMasks (now (masks .entry)) a) i → on r i ≡ true) ⌝ }
+{
+    let row = STRIDE * a;
+    let one = row + 2;
+    let two = row + 6;
+    let need = masks[row];
+    let ban = masks[row + 1];
+    let when = masks[one];
+    let unless = masks[one + 1];
+    let when2 = masks[two];
+    let unless2 = masks[two + 1];
+    let taken = need | ban;
+    let acting = when | unless;
+    let acting2 = when2 | unless2;
+    taken | (acting | acting2)
+}
+
+// The same of all actions.
 fn decisive(masks: &[u32], actions: usize) -> u32
     requires { ⌜ Table actions (now masks) ⌝ }
     ensures { λ r. ⌜ Decisive (now (masks .entry)) actions r ⌝ }
@@ -71,11 +91,8 @@ fn decisive(masks: &[u32], actions: usize) -> u32
     let mut all = 0;
     let mut a = 0;
     while a < actions {
-        let row = STRIDE * a;
-        let need = masks[row];
-        let ban = masks[row + 1];
-        let both = need | ban;
-        all = all | both;
+        let here = deciding(masks, a);
+        all = all | here;
         a += 1;
     }
     all
@@ -88,9 +105,9 @@ fn wide(mask: u32) -> u64
     mask as u64
 }
 
-// What two actions do to the fluents that matter is the same. What an action puts it does not drop: put wins.
+// What two clauses do to the fluents that matter is the same. What a clause puts it does not drop: put wins.
 fn same_effects(put: u32, drop: u32, put2: u32, drop2: u32, matter: u64) -> bool
-    ensures { λ r. ⌜ (r ≡ true → (need ban : ℕ) → Alike (others matter) (masksOf need ban put drop) (masksOf need ban put2 drop2)) ⌝ }
+    ensures { λ r. ⌜ (r ≡ true → (when unless : ℕ) → SameClause (others matter) (clauseOf when unless put drop) (clauseOf when unless put2 drop2)) ⌝ }
 {
     let dropped = drop & !put;
     let dropped2 = drop2 & !put2;
@@ -100,6 +117,28 @@ fn same_effects(put: u32, drop: u32, put2: u32, drop2: u32, matter: u64) -> bool
     let differ = wide(either);
     let felt = differ & matter;
     felt == 0
+}
+
+// The clauses from two places of the table on act in the same states, and do the same to the fluents that matter.
+fn same_clause(masks: &[u32], one: usize, two: usize, matter: u64) -> bool
+    requires { ⌜ (one + 4 ≤ length (now masks)) × (two + 4 ≤ length (now masks)) ⌝ }
+    ensures { λ r. ⌜ (r ≡ true → SameClause (others matter) (clauseAt (now (masks .entry)) one) (clauseAt (now (masks .entry)) two)) ⌝ }
+{
+    let when = masks[one];
+    let when2 = masks[two];
+    if when != when2 {
+        return false;
+    }
+    let unless = masks[one + 1];
+    let unless2 = masks[two + 1];
+    if unless != unless2 {
+        return false;
+    }
+    let put = masks[one + 2];
+    let drop = masks[one + 3];
+    let put2 = masks[two + 2];
+    let drop2 = masks[two + 3];
+    same_effects(put, drop, put2, drop2, matter)
 }
 
 // Two actions are possible in the same states, and do the same to the fluents that matter.
@@ -119,11 +158,14 @@ fn alike(masks: &[u32], a: usize, b: usize, matter: u64) -> bool
     if ban != ban2 {
         return false;
     }
-    let put = masks[one + 2];
-    let drop = masks[one + 3];
-    let put2 = masks[two + 2];
-    let drop2 = masks[two + 3];
-    same_effects(put, drop, put2, drop2, matter)
+    let first = one + 2;
+    let first2 = two + 2;
+    if !same_clause(masks, first, first2, matter) {
+        return false;
+    }
+    let second = one + 6;
+    let second2 = two + 6;
+    same_clause(masks, second, second2, matter)
 }
 
 // One of these actions, smaller than b, is like it.

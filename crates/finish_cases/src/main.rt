@@ -5,6 +5,7 @@ mod show;
 use show::run;
 use show::run_into;
 use show::run_over;
+use show::run_table;
 
 // The theory of document 01's examples.
 const LABELS: [u32; 12] = [0, 0, 1, 0, 1, 0, 2, 0, 0, 0, 0, 3];
@@ -43,6 +44,74 @@ const COFFEE: [u32; 28] = [
 
 // 00 and 01 are alike; 02 and 03 too, but that fluent 00 bars 02; 04 wants fluent 01, puts 02 and drops 00.
 const ALIKE: [u32; 20] = [0, 0, 1, 0, 0, 0, 1, 0, 0, 1, 2, 0, 0, 0, 2, 0, 2, 0, 4, 1];
+
+// Fluent 00 is that the carton is open. 00 puts label 01 only then, 01 closes the carton, 02 opens it.
+const OPEN: [u32; 30] = [
+    0,
+    0,
+    1,
+    0,
+    2,
+    0,
+    0,
+    0,
+    0,
+    0,
+    0,
+    0,
+    0,
+    0,
+    0,
+    1,
+    0,
+    0,
+    0,
+    0,
+    0,
+    0,
+    0,
+    0,
+    1,
+    0,
+    0,
+    0,
+    0,
+    0,
+];
+
+// 00 puts fluent 01 when 00 is on, 01 puts it unless 00 is on, in its second clause; 02 drops 00 in its first and puts 02 in its second when 00 is on.
+const CLAUSES: [u32; 30] = [
+    0,
+    0,
+    1,
+    0,
+    2,
+    0,
+    0,
+    0,
+    0,
+    0,
+    0,
+    0,
+    0,
+    0,
+    0,
+    0,
+    0,
+    1,
+    2,
+    0,
+    0,
+    0,
+    0,
+    0,
+    0,
+    1,
+    1,
+    0,
+    4,
+    0,
+];
 
 fn labels() {
     io::write_all(1, b"document 01\n");
@@ -252,6 +321,23 @@ fn bad_variables() {
     run_into(2, 3, 2, 0, &LABELS, b"", b"b00v", 6, &mut short);
 }
 
+// Document 02, Q-6: an action stands in for another only where their clauses act in the same states, and what a clause can turn may still come true.
+fn depends() {
+    io::write_all(1, b"effects that depend\n");
+    run_table(2, 3, 1, &OPEN, b"", b";*n?f01", 6);
+    run_table(2, 3, 0, &OPEN, b"", b";*n?f01", 6);
+    run_table(2, 3, 0, &OPEN, b"", b";*n?f01", 1);
+    run_table(2, 3, 1, &OPEN, b"\x01\x00", b";*n?f01", 6);
+    run_table(3, 3, 1, &CLAUSES, b"", b";n?f01", 6);
+    run_table(3, 3, 0, &CLAUSES, b"", b";n?f01", 6);
+    run_table(3, 3, 1, &CLAUSES, b"", b";*n?f02", 6);
+    run_table(3, 3, 0, &CLAUSES, b"", b";*n?f02", 6);
+    run_table(3, 3, 1, &CLAUSES, b"", b";*n?&!f00f01", 6);
+    io::write_all(1, b"effects that depend: refusals 3 and 4\n");
+    run_table(2, 3, 0, &LABELS, b"", b"n", 6);
+    run_table(2, 3, 0, &CLAUSES, b"", b"n", 6);
+}
+
 fn main() {
     labels();
     lengths();
@@ -268,4 +354,5 @@ fn main() {
     variables();
     sums();
     bad_variables();
+    depends();
 }

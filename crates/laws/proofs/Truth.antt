@@ -31,6 +31,10 @@ pub or-iff : (a b : Bool) → ((a || b) ≡ true) ↔ ((a ≡ true) ⊎ (b ≡ t
 or-iff true b = (λ e. inl refl, λ e. refl)
 or-iff false b = (inr, ⊎-elim (λ e. absurd (false≢true e)) (λ e. e))
 
+pub neither : (a b : Bool) → (a || b) ≡ false → (a ≡ false) × (b ≡ false)
+neither true b e = absurd (off-on e refl)
+neither false b e = (refl, e)
+
 -- a guard that holds wherever the answer is true
 pub and-idle : (a b : Bool) → (b ≡ true → a ≡ true) → (a && b) ≡ b
 and-idle true b f = refl

@@ -1,5 +1,5 @@
 -- The binary digits of a number, lowest first. Knows nothing of jobs, logs or rules.
-use mathlib.Core.Bool.{Bool, cond}
+use mathlib.Core.Bool.{Bool, true, cond, _&&_}
 use Prim.Native.Nat.{ℕ, zero, suc, _+_, _/_, _%_, _^_}
 use lib.Dec.{eqb}
 
@@ -11,6 +11,11 @@ on n i = eqb (n / 2 ^ i % 2) 1
 unfoldable pub gather : ℕ → (ℕ → Bool) → ℕ
 gather zero f = 0
 gather (suc k) f = gather k f + cond (f k) (2 ^ k) 0
+
+-- every number below k passes the test
+unfoldable pub allBelow : ℕ → (ℕ → Bool) → Bool
+allBelow zero f = true
+allBelow (suc k) f = f k && allBelow k f
 
 -- how many of the k numbers from 0 up pass the test
 unfoldable pub countBelow : ℕ → (ℕ → Bool) → ℕ

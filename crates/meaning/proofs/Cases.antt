@@ -3,24 +3,24 @@
 use mathlib.Core.Path.{_≡_, refl, sym, _∙_}
 use mathlib.Core.Logic.{Iff·rfl}
 use mathlib.Core.Bool.{Bool, true, false, not, _&&_, false≢true}
-use mathlib.Core.List.{List, [], _∷_}
+use mathlib.Core.List.{List, [], _∷_, map}
 use Prim.Native.Nat.{ℕ, suc, _^_, _<_}
 use native.Mathlib.Nat.{lt-of-lt-of-le}
 use native.Mathlib.Omega.{arith}
 use lib.Dec.{eqb, leb}
 use lib.Pow.{pow-mono}
-use Rattle.laws.specs.Bit.{on, gather, countBelow, firstBelow}
+use Rattle.laws.specs.Bit.{on, gather, allBelow, countBelow, firstBelow}
 use Rattle.laws.specs.Text.{bytes}
 use Rattle.laws.proofs.On.{on-high}
 use Rattle.laws.proofs.Gather.{on-gather, gather-lt}
 use Rattle.meaning.specs.Limits.{places}
-use Rattle.meaning.specs.Theory.{World}
+use Rattle.meaning.specs.Theory.{World, acts, after, run}
 use Rattle.meaning.specs.Rule.{Walk, Rule, Kind, testKind, walkKind, jobKind, ofTest, ofWalk, text, walkText}
 use Rattle.meaning.specs.Leads.{Leads, Holds}
 use Rattle.meaning.specs.Reach.{ReachedAs}
 use Rattle.meaning.specs.Normal.{normal, normalRule}
 use Rattle.meaning.specs.Cases.{CaseVerdict, yes, no, CaseEnding, sequence, refusal, Case, reach, verdict, form, finish, cases, twoValues, threeValues, jobWith}
-use Rattle.meaning.specs.Cases.{SpelledAs, OfWalk, OfTest, IsSo, Finishing, CaseSays, AllSay}
+use Rattle.meaning.specs.Cases.{SpelledAs, OfWalk, OfTest, IsSo, Finishing, CaseSays, AllSay, effectCases, shown, walked}
 use Rattle.meaning.proofs.Bounds.{leads-within}
 use Rattle.laws.proofs.Count.{count-cut}
 use Rattle.laws.proofs.First.{firstUpTo, first-cut}
@@ -188,3 +188,8 @@ checked-three = refl
 pub three-values : AllSay 3 threeValues
 unfolding found-three
 three-values = all-say 3 1 threeValues checked-three
+
+-- and those of Q-6
+pub effect-cases : map walked effectCases ≡ map shown effectCases
+unfolding run acts after gather allBelow on
+effect-cases = refl

@@ -8,18 +8,18 @@ use native.Mathlib.Nat.{le-of-suc-le-suc}
 use native.Mathlib.Omega.{arith}
 use lib.Dec.{eqb, leb, ltb}
 use lib.ListN.{length}
-use Rattle.laws.specs.Bit.{on, gather}
+use Rattle.laws.specs.Bit.{on, gather, allBelow}
 use Rattle.meaning.specs.Limits.{logLimit}
-use Rattle.meaning.specs.Theory.{Masks, Possible, World, after, relog, run}
+use Rattle.meaning.specs.Theory.{Masks, Possible, World, acts, after, relog, run}
 use Rattle.meaning.specs.Rule.{Walk}
 use Rattle.meaning.specs.Finish.{Able, Finishes, Smaller, Before, First, None}
 use Rattle.meaning.proofs.Tells.{Tells, true-tells, false-tells, eq-tells, le-tells, lt-tells, tells-as}
-use Rattle.meaning.proofs.Tells.{and-tells, or-tells, if-tells, not-tells, allBelow, all-tells}
+use Rattle.meaning.proofs.Tells.{and-tells, or-tells, if-tells, not-tells, all-tells}
 use Rattle.meaning.proofs.Possible.{possible, possible-tells}
 use Rattle.meaning.proofs.Evaluate.{leadsGrid, leads-draws}
 
 unfoldable pub able : ℕ → (ℕ → Masks) → ℕ → List ℕ → Bool
-unfolding possible after gather on
+unfolding possible acts after gather allBelow on
 able actions masks state [] = true
 able actions masks state (a ∷ rest) = ltb a actions && (possible (masks a) state && able actions masks (after (masks a) state) rest)
 
@@ -71,7 +71,7 @@ before-tells xs ys = or-tells (lt-tells (length xs) (length ys)) (and-tells (eq-
 
 -- a test of every sequence of at most k actions, each possible where it stands
 unfoldable pub every : ℕ → ℕ → (ℕ → Masks) → ℕ → (List ℕ → Bool) → Bool
-unfolding allBelow possible after gather on
+unfolding allBelow possible acts after gather on
 every zero actions masks state f = f []
 every (suc k) actions masks state f =
     f [] && allBelow actions (λ a. not (possible (masks a) state) || every k actions masks (after (masks a) state) (λ s. f (a ∷ s)))

@@ -7,8 +7,8 @@ use mathlib.Core.Option.{Option, none, some, Option·none-ne-some}
 use Prim.Native.Nat.{ℕ, zero, suc, _+_}
 use native.Mathlib.Omega.{arith}
 use lib.Dec.{eqb, leb}
-use Rattle.laws.specs.Bit.{on, gather}
-use Rattle.meaning.specs.Theory.{Masks, World, bind, numberIn, after, run, stateAt}
+use Rattle.laws.specs.Bit.{on, gather, allBelow}
+use Rattle.meaning.specs.Theory.{Masks, World, bind, numberIn, acts, after, run, stateAt}
 use Rattle.meaning.specs.Rule.{Walk, Test, act, undo, next, prev, seq, alt, star, check, conv, pick, always, fluent, neg, both, diamond, exists}
 use Rattle.meaning.specs.Leads.{Rel, Truth, Taken, Step, AnyStep, Here, ownNow, Some, Exists, Leads, Back, Holds}
 use Rattle.meaning.proofs.Chain.{Within}
@@ -73,7 +73,7 @@ unfolding anyTaken
 any-taken-tells {step} {masks} {state} {p} {q} {n} asked = taken-by-tells step masks state p q n
 
 unfoldable pub stepGrid : World → ℕ → Grid
-unfolding kept taken run after gather on
+unfolding kept taken run acts after gather allBelow on
 stepGrid w a = kept (λ n p q. taken (the (Step w a p q n)))
 
 step-draws : (w : World) (a : ℕ) → Draws (stepGrid w a) (Step w a)
@@ -81,7 +81,7 @@ unfolding stepGrid
 step-draws w a = kept-draws (λ p q n h. omega arith) (λ p q n. taken-tells (the (Step w a p q n)))
 
 unfoldable pub anyGrid : World → Grid
-unfolding kept anyTaken run after gather on
+unfolding kept anyTaken run acts after gather allBelow on
 anyGrid w = kept (λ n p q. anyTaken (the (AnyStep w p q n)))
 
 any-draws : (w : World) → Draws (anyGrid w) (AnyStep w)
@@ -139,7 +139,7 @@ exists-gives {d} {x} {v} f t n = subst⁻¹ (λ (b : Bool). Tells b (Exists d x 
 -- The evaluator, sign by sign, as the two tables have it
 
 unfoldable mutual
-  unfolding stepGrid turnedGrid anyGrid thenGrid orGrid manyGrid hereGrid pickGrid notValue bothValue someValue existsValue run after gather on
+  unfolding stepGrid turnedGrid anyGrid thenGrid orGrid manyGrid hereGrid pickGrid notValue bothValue someValue existsValue run acts after gather allBelow on
 
   pub leadsGrid : World → Walk → Grid
   leadsGrid w (act a) = stepGrid w (numberIn w a)

@@ -15,6 +15,7 @@ pub mod Reading
 pub mod Tells
 pub mod Grid
 pub mod Possible
+pub mod Effects
 pub mod Evaluate
 pub mod Endings
 pub mod Cases

@@ -5,12 +5,12 @@ use mathlib.Core.Bool.{Bool, true, not, _&&_, _||_}
 use Prim.Native.Nat.{ℕ, zero, suc, _/_, _^_, _<_}
 use native.Mathlib.Nat.{lt-of-not-le, pow-suc}
 use native.Mathlib.Omega.{arith}
-use Rattle.laws.specs.Bit.{on}
+use Rattle.laws.specs.Bit.{on, allBelow}
 use Rattle.laws.proofs.On.{on-high}
 use Rattle.laws.proofs.Truth.{off-on}
 use Rattle.meaning.specs.Limits.{fluentLimit}
 use Rattle.meaning.specs.Theory.{Masks, Possible}
-use Rattle.meaning.proofs.Tells.{Tells, and-tells, if-tells, false-told, tells-as, allBelow, all-tells}
+use Rattle.meaning.proofs.Tells.{Tells, and-tells, if-tells, false-told, tells-as, all-tells}
 
 -- how many bits hold a number: its own if it has at most k, and else as many as the number says
 unfoldable pub room : ℕ → ℕ → ℕ

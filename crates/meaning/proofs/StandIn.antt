@@ -2,23 +2,24 @@
 -- fluents on, but for those that decide nothing. Knows the two tables and the effects of an action.
 use mathlib.Core.Path.{_≡_, refl, sym, _∙_}
 use mathlib.Core.Logic.{_⊎_, inl, inr}
-use mathlib.Core.Bool.{Bool, true, false, not, _&&_, _||_, cond}
+use mathlib.Core.Bool.{Bool, true, false, not, _&&_, _||_, cond, and-false, or-true}
 use mathlib.Core.List.{List, [], _∷_, _++_, append-assoc}
 use mathlib.Core.Option.{some}
 use Prim.Native.Nat.{ℕ, zero, suc, _+_, _≤_, max}
 use native.Mathlib.Decide.{decLt}
 use native.Mathlib.Omega.{arith}
 use lib.ListN.{length, length-append, take, getElem?}
-use borrow.Author.Tests.{le-ltb}
 use Rattle.laws.specs.Bit.{on}
-use Rattle.laws.proofs.Truth.{off-on}
-use Rattle.laws.proofs.Gather.{on-gather}
+use Rattle.laws.proofs.On.{on-high}
+use Rattle.laws.proofs.Truth.{same-truth, off-on}
 use Rattle.meaning.specs.Limits.{fluentLimit}
-use Rattle.meaning.specs.Theory.{Masks, Possible, World, bind, after, relog, run, stateAt, stepAt}
+use Rattle.meaning.specs.Theory.{Clause, Masks, Possible, Acts, acts, clausePuts, clauseDrops, World, bind, after, relog, run, stateAt, stepAt}
 use Rattle.meaning.specs.Rule.{Variable, Name, plain, plus, Walk, Test, act, undo, next, prev, seq, alt, star, check, conv, pick, always, fluent, neg, both, diamond, exists, walkNames, testNames}
 use Rattle.meaning.specs.Leads.{Leads, Holds, Step, AnyStep, ownNow}
 use Rattle.meaning.specs.Finish.{Able, Smaller, First}
-use Rattle.meaning.specs.StandIn.{among, NamesNone, Idle, Alike, StandsIn}
+use Rattle.meaning.specs.StandIn.{among, NamesNone, Asked, Idle, SameClause, Alike, StandsIn}
+use Rattle.meaning.proofs.Effects.{acts-tells, after-bit}
+use Rattle.meaning.proofs.Theory.{after-lt}
 use Rattle.meaning.proofs.Bounds.{leads-within}
 use Rattle.meaning.proofs.Converse.{back-exchanged}
 use Rattle.meaning.proofs.Cut.{Kept, Stays, then-kept, or-kept, many-kept, some-stays, turned-kept}
@@ -79,37 +80,72 @@ module _ (f g : Name → ℕ) (no-act : (n : ℕ) (v : Variable) → f (plus n v
     holds-told w w′ (exists y x) z u v = λ t n e l h.
         (h .0, rw (← u .values) (h .1), holds-told (bind w y (h .0)) (bind w′ y (h .0)) x z (told-bound y (h .0) u) (told-bound y (h .0) v) t n e l (h .2))
 
--- what an action does to a fluent, by its bits
-effect : (p p′ d d′ s s′ : Bool) → p ≡ p′ → (p ≡ false → d ≡ d′) → s ≡ s′ → (p || (s && not d)) ≡ (p′ || (s′ && not d′))
-effect true p′ d d′ s s′ e f h = rw (← e)
-effect false p′ d d′ s s′ e f h = rw (← e, f refl, h)
+-- what an action does to a fluent, by its bits: a drop of a clause that acts and puts does not show
+module _ (s x y : Bool) where
+  first-clause : (p d d′ a : Bool) → (p ≡ false → d ≡ d′) → (((p && a) || x) || (s && not ((d && a) || y))) ≡ (((p && a) || x) || (s && not ((d′ && a) || y)))
+  first-clause true d d′ true f = refl
+  first-clause true d d′ false f = simp and-false
+  first-clause false d d′ a f = rw (f refl)
+
+  second-clause : (p d d′ a : Bool) → (p ≡ false → d ≡ d′) → ((x || (p && a)) || (s && not (y || (d && a)))) ≡ ((x || (p && a)) || (s && not (y || (d′ && a))))
+  second-clause true d d′ true f = simp or-true
+  second-clause true d d′ false f = simp and-false
+  second-clause false d d′ a f = rw (f refl)
 
 module _ (masks : ℕ → Masks) (idle : ℕ) (quiet : Idle masks idle) where
   -- two states with the same fluents on, but for the idle ones
   abbrev Near : ℕ → ℕ → Type 0
   Near s s′ = (i : ℕ) → on idle i ≡ false → on s i ≡ on s′ i
 
-  near-after : (m m′ : Masks) (s s′ : ℕ) → Alike idle m m′ → Near s s′ → Near (after m s) (after m′ s′)
-  unfolding after
-  near-after m m′ s s′ h n i e =
-      rw (on-gather, on-gather) (elim (decLt i fluentLimit) [
-        | yes l ↦ rw (effect (on (m .put) i) (on (m′ .put) i) (on (m .drop) i) (on (m′ .drop) i) (on s i) (on s′ i) (h .put i l e) (h .drop i l e) (n i e))
-        | no l ↦ rw (le-ltb i fluentLimit (omega arith))
-      ])
+  -- a clause acts in both or in neither
+  near-acting : (c c′ : Clause) (s s′ : ℕ) → ((i : ℕ) → Asked c′ i → on idle i ≡ false) → c .when ≡ c′ .when → c .unless ≡ c′ .unless → Near s s′
+      → Acts c s → Acts c′ s′
+  near-acting c c′ s s′ unread d e n h = record {
+    met = λ i l o. sym (n i (unread i (inl o))) ∙ h .met i l (rw d o);
+    clear = λ i l o. sym (n i (unread i (inr o))) ∙ h .clear i l (rw e o);
+  }
+
+  near-acts : (c c′ : Clause) (s s′ : ℕ) → ((i : ℕ) → Asked c′ i → on idle i ≡ false) → SameClause idle c c′ → Near s s′ → acts c s ≡ acts c′ s′
+  near-acts c c′ s s′ unread h n =
+      let unread′ : (i : ℕ) → Asked c i → on idle i ≡ false = λ i o. unread i (rw (h .when, h .unless) at o) in
+      same-truth (acts c s) (acts c′ s′)
+      (λ o. acts-tells c′ s′ .1 (near-acting c c′ s s′ unread (h .when) (h .unless) n (acts-tells c s .0 o)))
+      (λ o. acts-tells c s .1 (near-acting c′ c s′ s unread′ (sym (h .when)) (sym (h .unless)) (λ i e. sym (n i e)) (acts-tells c′ s′ .0 o)))
+
+  -- and does the same
+  near-after : (a b s s′ : ℕ) → Alike idle (masks a) (masks b) → Near s s′ → Near (after (masks a) s) (after (masks b) s′)
+  near-after a b s s′ h n i e = elim (decLt i fluentLimit) [
+    | yes l ↦
+        let m = masks a in
+        let m′ = masks b in
+        let one = near-acts (m .one) (m′ .one) s s′ (λ j o. quiet b j (inr (inl o))) (h .one) n in
+        let two = near-acts (m .two) (m′ .two) s s′ (λ j o. quiet b j (inr (inr o))) (h .two) n in
+        rw (after-bit m s i l, after-bit m′ s′ i l, one, two, h .one .put i l e, h .two .put i l e, n i e)
+        (first-clause (on s′ i) (clausePuts (m′ .two) s′ i) (on (m .two .drop) i && acts (m′ .two) s′) (on (m′ .one .put) i) (on (m .one .drop) i) (on (m′ .one .drop) i)
+        (acts (m′ .one) s′) (λ z. h .one .drop i l e (h .one .put i l e ∙ z))
+        ∙ second-clause (on s′ i) (clausePuts (m′ .one) s′ i) (clauseDrops (m′ .one) s′ i) (on (m′ .two .put) i) (on (m .two .drop) i) (on (m′ .two .drop) i)
+        (acts (m′ .two) s′) (λ z. h .two .drop i l e (h .two .put i l e ∙ z)))
+    | no l ↦
+        let far : fluentLimit ≤ i = omega arith in
+        on-high fluentLimit (after-lt (masks a) s) far ∙ sym (on-high fluentLimit (after-lt (masks b) s′) far)
+  ]
 
   alike-self : (m : Masks) → Alike idle m m
-  alike-self m = record { need = refl; ban = refl; put = λ i l e. refl; drop = λ i l e p. refl }
+  alike-self m = record { need = refl; ban = refl; one = same (m .one); two = same (m .two) }
+    where
+      same : (c : Clause) → SameClause idle c c
+      same c = record { when = refl; unless = refl; put = λ i l e. refl; drop = λ i l e p. refl }
 
   near-run : (l : List ℕ) (s s′ : ℕ) → Near s s′ → Near (run masks s l) (run masks s′ l)
   unfolding run
   near-run [] s s′ n = n
-  near-run (a ∷ l) s s′ n = near-run l (after (masks a) s) (after (masks a) s′) (near-after (masks a) (masks a) s s′ (alike-self (masks a)) n)
+  near-run (a ∷ l) s s′ n = near-run l (after (masks a) s) (after (masks a) s′) (near-after a a s s′ (alike-self (masks a)) n)
 
   -- an action is possible in both or in neither
   near-possible : (a b s s′ : ℕ) → masks a .need ≡ masks b .need → masks a .ban ≡ masks b .ban → Near s s′ → Possible (masks a) s → Possible (masks b) s′
   near-possible a b s s′ d e n h = record {
-    needed = λ i o. sym (n i (quiet .needed b i o)) ∙ h .needed i (rw d o);
-    banned = λ i o. sym (n i (quiet .banned b i o)) ∙ h .banned i (rw e o);
+    needed = λ i o. sym (n i (quiet b i (inl (inl o)))) ∙ h .needed i (rw d o);
+    banned = λ i o. sym (n i (quiet b i (inl (inr o)))) ∙ h .banned i (rw e o);
   }
 
   near-able : (actions : ℕ) (rest : List ℕ) (s s′ : ℕ) → Near s s′ → Able actions masks s rest → Able actions masks s′ rest
@@ -117,7 +153,7 @@ module _ (masks : ℕ → Masks) (idle : ℕ) (quiet : Idle masks idle) where
   near-able actions (c ∷ rest) s s′ n h = (
     h .0,
     near-possible c c s s′ refl refl n (h .1),
-    near-able actions rest (after (masks c) s) (after (masks c) s′) (near-after (masks c) (masks c) s s′ (alike-self (masks c)) n) (h .2),
+    near-able actions rest (after (masks c) s) (after (masks c) s′) (near-after c c s s′ (alike-self (masks c)) n) (h .2),
   )
 
   module _ (a b : ℕ) (alike : Alike idle (masks a) (masks b)) where
@@ -125,7 +161,7 @@ module _ (masks : ℕ → Masks) (idle : ℕ) (quiet : Idle masks idle) where
     near-states : (log rest : List ℕ) (s p : ℕ) → Near (run masks s (take p (log ++ a ∷ rest))) (run masks s (take p (log ++ b ∷ rest)))
     unfolding run
     near-states [] rest s zero = λ i e. refl
-    near-states [] rest s (suc p) = near-run (take p rest) (after (masks a) s) (after (masks b) s) (near-after (masks a) (masks b) s s alike (λ i e. refl))
+    near-states [] rest s (suc p) = near-run (take p rest) (after (masks a) s) (after (masks b) s) (near-after a b s s alike (λ i e. refl))
     near-states (c ∷ log) rest s zero = λ i e. refl
     near-states (c ∷ log) rest s (suc p) = near-states log rest (after (masks c) s) p
 
@@ -137,12 +173,15 @@ module _ (masks : ℕ → Masks) (idle : ℕ) (quiet : Idle masks idle) where
     steps (d ∷ log) rest (suc p) c h = steps log rest p c h
 
 alike-turned : (idle : ℕ) (m m′ : Masks) → Alike idle m m′ → Alike idle m′ m
-alike-turned idle m m′ h = record {
-  need = sym (h .need);
-  ban = sym (h .ban);
-  put = λ i l e. sym (h .put i l e);
-  drop = λ i l e p. sym (h .drop i l e (h .put i l e ∙ p));
-}
+alike-turned idle m m′ h = record { need = sym (h .need); ban = sym (h .ban); one = turned (m .one) (m′ .one) (h .one); two = turned (m .two) (m′ .two) (h .two) }
+  where
+    turned : (c c′ : Clause) → SameClause idle c c′ → SameClause idle c′ c
+    turned c c′ k = record {
+      when = sym (k .when);
+      unless = sym (k .unless);
+      put = λ i l e. sym (k .put i l e);
+      drop = λ i l e p. sym (k .drop i l e (k .put i l e ∙ p));
+    }
 
 -- 0 is for what a mask does not hold
 not-among : (b : Bool) → _≡_ {A = ℕ} (cond b 1 0) 0 → b ≡ false
@@ -197,7 +236,7 @@ module _ (w : World) (unnamed idle : ℕ) (quiet : Idle (w .masks) idle) where
         omega (arith, h .smaller, able .0),
         near-possible (w .masks) idle quiet b a state state (back .need) (back .ban) (λ i e. refl) (able .1),
         near-able (w .masks) idle quiet actions rest (after (w .masks b) state) (after (w .masks a) state)
-            (near-after (w .masks) idle quiet (w .masks b) (w .masks a) state state back (λ i e. refl)) (able .2),
+            (near-after (w .masks) idle quiet b a state state back (λ i e. refl)) (able .2),
       )
 
   -- so the first finishing sequence never has an action with a stand-in

@@ -8,6 +8,7 @@ use native.Mathlib.Nat.{eq-or-lt-of-le, le-of-suc-le-suc}
 use native.Mathlib.Omega.{arith}
 use lib.Dec.{eqb, leb, ltb}
 use borrow.Author.Tests.{eqb-true, eq-eqb, leb-true, le-leb, ltb-true, lt-ltb}
+use Rattle.laws.specs.Bit.{allBelow}
 
 abbrev pub Tells : Bool → Type 0 → Type 0
 Tells b X = (b ≡ true) ↔ X
@@ -66,10 +67,6 @@ same-tells (x ∷ xs) [] = false-tells cons≢nil
 same-tells (x ∷ xs) (y ∷ ys) = tells-as (and-tells (eq-tells x y) (same-tells xs ys)) (λ h. cc) (λ e. (cc, cc))
 
 -- a test of every number below k, and of some number below k
-unfoldable pub allBelow : ℕ → (ℕ → Bool) → Bool
-allBelow zero f = true
-allBelow (suc k) f = f k && allBelow k f
-
 unfoldable pub anyBelow : ℕ → (ℕ → Bool) → Bool
 anyBelow zero f = false
 anyBelow (suc k) f = f k || anyBelow k f

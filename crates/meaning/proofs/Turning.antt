@@ -1,47 +1,63 @@
 -- Which fluents can still be on, or off: what holds of one state and is kept by every action holds of every later state. Knows the effect of an action.
 use mathlib.Core.Path.{_≡_, refl, sym, ap, subst, _∙_}
-use mathlib.Core.Bool.{Bool, true, false, not, _&&_, _||_}
+use mathlib.Core.Logic.{inl, inr, ⊎-elim}
+use mathlib.Core.Bool.{Bool, true, false, not, _&&_}
 use mathlib.Core.List.{List, [], _∷_, _++_}
 use Prim.Native.Nat.{ℕ, zero, suc, _+_, _-_, _≤_, _<_}
 use native.Mathlib.Omega.{arith}
 use lib.ListN.{length, take}
-use borrow.Author.Tests.{lt-ltb}
 use Rattle.laws.specs.Bit.{on}
-use Rattle.laws.proofs.Truth.{off-on}
-use Rattle.laws.proofs.Gather.{on-gather}
+use Rattle.laws.proofs.Truth.{and-iff, or-iff, off-on, neither, implies-iff, true-or-false}
 use Rattle.meaning.specs.Limits.{fluentLimit}
-use Rattle.meaning.specs.Theory.{Masks, World, after, relog, run, stateAt}
+use Rattle.meaning.specs.Theory.{Clause, Masks, World, acts, clausePuts, clauseDrops, puts, drops, after, relog, run, stateAt}
 use Rattle.meaning.specs.Finish.{Able}
-use Rattle.meaning.specs.Lengths.{Turning, Reaching}
+use Rattle.meaning.specs.Lengths.{Turning, Turns, Reaching}
+use Rattle.meaning.proofs.Effects.{after-bit}
 use Rattle.meaning.proofs.Theory.{run-append}
 
--- "on when put names it, or it was on and drop does not name it", of one fluent
-effect-on : (p s d o : Bool) → (p ≡ true → o ≡ true) → (s ≡ true → o ≡ true) → (p || (s && not d)) ≡ true → o ≡ true
-effect-on true s d o put was e = put refl
-effect-on false true d o put was e = was refl
-effect-on false false d o put was e = absurd (off-on refl e)
-
-effect-off : (p s d o : Bool) → (d ≡ true → p ≡ false → o ≡ true) → (s ≡ false → o ≡ true) → (p || (s && not d)) ≡ false → o ≡ true
-effect-off true s d o dropped was e = absurd (off-on e refl)
-effect-off false true true o dropped was e = dropped refl refl
-effect-off false true false o dropped was e = absurd (off-on e refl)
-effect-off false false d o dropped was e = was refl
-
-after-bit : (m : Masks) (state i : ℕ) → i < fluentLimit → on (after m state) i ≡ (on (m .put) i || (on state i && not (on (m .drop) i)))
-unfolding after
-after-bit m state i h = rw (on-gather fluentLimit (λ j. on (m .put) j || (on state j && not (on (m .drop) j))) i, lt-ltb i fluentLimit h)
+-- what a clause drops and does not put, where it acts
+lost : (put acts drop : Bool) → (put && acts) ≡ false → (drop && acts) ≡ true → (drop ≡ true) × (put ≡ false)
+lost true acts drop e d = absurd (off-on e (and-iff drop acts .0 d .1))
+lost false acts drop e d = (and-iff drop acts .0 d .0, refl)
 
 -- an action keeps it
+module _ (m : Masks) (state ons offs : ℕ) (here : Turning ons offs state) (one : Turns (m .one) ons offs) (two : Turns (m .two) ons offs) where
+  after-on : (i : ℕ) → i < fluentLimit → on (after m state) i ≡ true → on ons i ≡ true
+  after-on i h e =
+      ⊎-elim
+      (λ p.
+      ⊎-elim (λ q. one .put i h (named (m .one .put) (m .one) q)) (λ q. two .put i h (named (m .two .put) (m .two) q))
+      (or-iff (clausePuts (m .one) state i) (clausePuts (m .two) state i) .0 p))
+      (λ k. here i h .0 (and-iff (on state i) (not (drops m state i)) .0 k .0))
+      (or-iff (puts m state i) (on state i && not (drops m state i)) .0 (sym (after-bit m state i h) ∙ e))
+    where
+      named : (mask : ℕ) (c : Clause) → (on mask i && acts c state) ≡ true → on mask i ≡ true
+      named mask c p = and-iff (on mask i) (acts c state) .0 p .0
+
+  after-off : (i : ℕ) → i < fluentLimit → on (after m state) i ≡ false → on offs i ≡ true
+  after-off i h e =
+      let off = neither (puts m state i) (on state i && not (drops m state i)) (sym (after-bit m state i h) ∙ e) in
+      let unput = neither (clausePuts (m .one) state i) (clausePuts (m .two) state i) (off .0) in
+      elim (true-or-false (on state i)) [
+        | inl was ↦
+            ⊎-elim (gone (m .one) one (unput .0)) (gone (m .two) two (unput .1))
+            (or-iff (clauseDrops (m .one) state i) (clauseDrops (m .two) state i) .0 (implies-iff (on state i) (drops m state i) .0 (off .1) was))
+        | inr was ↦ here i h .1 was
+      ]
+    where
+      gone : (c : Clause) → Turns c ons offs → clausePuts c state i ≡ false → clauseDrops c state i ≡ true → on offs i ≡ true
+      gone c t p d = let l = lost (on (c .put) i) (acts c state) (on (c .drop) i) p d in t .dropped i h (l .0) (l .1)
+
 after-turning : (actions : ℕ) (masks : ℕ → Masks) (state ons offs a : ℕ) → Reaching actions masks state ons offs → a < actions
     → Reaching actions masks (after (masks a) state) ons offs
-after-turning actions masks state ons offs a r known = record {
-  here = λ i h. (
-    λ e. effect-on (on (masks a .put) i) (on state i) (on (masks a .drop) i) (on ons i) (r .put a known i h) (r .here i h .0) (sym (after-bit (masks a) state i h) ∙ e),
-    λ e. effect-off (on (masks a .put) i) (on state i) (on (masks a .drop) i) (on offs i) (r .dropped a known i h) (r .here i h .1) (sym (after-bit (masks a) state i h) ∙ e),
-  );
-  put = r .put;
-  dropped = r .dropped;
-}
+after-turning actions masks state ons offs a r known =
+    let one = r .one a known in
+    let two = r .two a known in
+    record {
+      here = λ i h. (after-on (masks a) state ons offs (r .here) one two i h, after-off (masks a) state ons offs (r .here) one two i h);
+      one = r .one;
+      two = r .two;
+    }
 
 -- and so it is after any actions of the theory
 run-turning : (actions : ℕ) (masks : ℕ → Masks) (state ons offs : ℕ) (steps : List ℕ) (j : ℕ) → Reaching actions masks state ons offs → Able actions masks state steps

@@ -1,12 +1,13 @@
 -- Document 01, "Examples on that theory": every row marked P, in the document's order, and what each says about the meaning. A case gives its rule
--- as the document writes it; what it says is said of the rule that this text spells. Then cases of document 02, Q-2, on the same theory and logs.
+-- as the document writes it; what it says is said of the rule that this text spells. Then cases of document 02: of Q-2, on the same theory and logs, and of Q-6.
 use mathlib.Core.Path.{_≡_}
-use mathlib.Core.List.{List, [], _∷_}
-use Prim.Native.Nat.{ℕ}
+use mathlib.Core.List.{List, [], _∷_, map}
+use Prim.Native.Nat.{ℕ, _+_}
 use Prim.Native.String.{String}
 use lib.ListN.{getD}
 use Rattle.laws.specs.Text.{bytes}
-use Rattle.meaning.specs.Theory.{Masks, World, masksOf, noValues}
+use Rattle.meaning.specs.Theory.{Clause, Masks, World, clauseOf, masksOf, noValues, stateAt}
+use Rattle.meaning.specs.Four.{plainMasks}
 use Rattle.meaning.specs.Rule.{Walk, Test, Rule, Kind, testKind, walkKind, jobKind, ofTest, ofWalk, Opens, text}
 use Rattle.meaning.specs.Leads.{Holds}
 use Rattle.meaning.specs.Reach.{ReachedAs}
@@ -17,7 +18,7 @@ use Rattle.meaning.specs.Finish.{First, None}
 
 -- its `act=` lines: "need, ban, put, drop"
 abbrev pub actions : List Masks
-actions = masksOf 0 0 1 0 ∷ masksOf 1 0 2 0 ∷ masksOf 0 0 0 3 ∷ []
+actions = plainMasks 0 0 1 0 ∷ plainMasks 1 0 2 0 ∷ plainMasks 0 0 0 3 ∷ []
 
 -- so many values has a variable, 0 on a sheet without variables
 abbrev pub jobWith : ℕ → List ℕ → World
@@ -25,7 +26,7 @@ jobWith domain log =
     record {
       fluents = 2;
       actions = 3;
-      masks = λ a. getD actions a (masksOf 0 0 0 0);
+      masks = λ a. getD actions a (plainMasks 0 0 0 0);
       start = 0;
       domain = domain;
       values = noValues;
@@ -158,3 +159,41 @@ CaseSays domain (finish log job more ending) = SpelledAs jobKind (bytes job) (Of
 abbrev pub AllSay : ℕ → List Case → Type 0
 AllSay domain [] = Unit {0}
 AllSay domain (c ∷ rest) = CaseSays domain c × AllSay domain rest
+
+-- Q-6: one action of two clauses, taken as often as there are states to be shown
+
+pub data EffectCase : Type 0 where
+  -- start, the clauses as "when, unless, put, drop": the states after one step, after two, ..
+  effect : ℕ → Clause → Clause → List ℕ → EffectCase
+
+abbrev pub noClause : Clause
+noClause = clauseOf 0 0 0 0
+
+abbrev pub effectCases : List EffectCase
+effectCases =
+    effect 3 (clauseOf 1 0 0 2) noClause (1 ∷ [])
+    ∷ effect 2 (clauseOf 1 0 0 2) noClause (2 ∷ [])
+    ∷ effect 0 (clauseOf 0 0 1 0) (clauseOf 0 0 0 1) (1 ∷ [])
+    ∷ effect 1 (clauseOf 0 0 1 0) (clauseOf 0 0 0 1) (1 ∷ [])
+    ∷ effect 1 (clauseOf 0 0 0 1) (clauseOf 0 0 1 0) (1 ∷ [])
+    ∷ effect 0 (clauseOf 0 0 1 0) (clauseOf 1 0 2 0) (1 ∷ 3 ∷ [])
+    ∷ effect 1 (clauseOf 1 1 0 1) noClause (1 ∷ [])
+    ∷ effect 3 (clauseOf 0 1 0 3) (clauseOf 1 0 0 1) (2 ∷ [])
+    ∷ []
+
+-- a theory of this one action, which is possible in every state
+abbrev pub oneAction : ℕ → Clause → Clause → List ℕ → World
+oneAction start one two log =
+    record { fluents = 2; actions = 1; masks = λ a. masksOf 0 0 one two; start = start; domain = 0; values = noValues; log = log }
+
+-- the states of a world at as many positions, from p on, as the list is long
+abbrev pub statesFrom : World → ℕ → List ℕ → List ℕ
+statesFrom w p [] = []
+statesFrom w p (s ∷ rest) = stateAt w p ∷ statesFrom w (p + 1) rest
+
+-- the states that a case shows, and those that the meaning has
+abbrev pub shown : EffectCase → List ℕ
+shown (effect start one two later) = start ∷ later
+
+abbrev pub walked : EffectCase → List ℕ
+walked (effect start one two later) = statesFrom (oneAction start one two (map (λ s. 0) later)) 0 (start ∷ later)

@@ -8,7 +8,7 @@ use Prim.Native.Nat.{ℕ, _+_, _<_}
 use lib.ListN.{length, getD}
 use Rattle.laws.specs.Bit.{on}
 use Rattle.meaning.specs.Limits.{fluentLimit, moreLimit}
-use Rattle.meaning.specs.Theory.{Masks, World, stateAt}
+use Rattle.meaning.specs.Theory.{Clause, Masks, World, stateAt}
 use Rattle.meaning.specs.Rule.{Walk, Test, act, undo, next, prev, seq, alt, star, check, conv, pick, walkText}
 use Rattle.meaning.specs.Leads.{Holds}
 
@@ -16,11 +16,16 @@ use Rattle.meaning.specs.Leads.{Holds}
 abbrev pub Turning : ℕ → ℕ → ℕ → Type 0
 Turning ons offs state = (i : ℕ) → i < fluentLimit → (on state i ≡ true → on ons i ≡ true) × (on state i ≡ false → on offs i ≡ true)
 
+-- A clause turns only such fluents on and off. "Put wins": what it drops and puts, it does not turn off.
+pub record Turns (c : Clause) (ons offs : ℕ) : Type 0 where
+  pub put : (i : ℕ) → i < fluentLimit → on (c .put) i ≡ true → on ons i ≡ true
+  pub dropped : (i : ℕ) → i < fluentLimit → on (c .drop) i ≡ true → on (c .put) i ≡ false → on offs i ≡ true
+
 -- So it is in this state, and every action of the theory leaves it so.
 pub record Reaching (actions : ℕ) (masks : ℕ → Masks) (state ons offs : ℕ) : Type 0 where
   pub here : Turning ons offs state
-  pub put : (a : ℕ) → a < actions → (i : ℕ) → i < fluentLimit → on (masks a .put) i ≡ true → on ons i ≡ true
-  pub dropped : (a : ℕ) → a < actions → (i : ℕ) → i < fluentLimit → on (masks a .drop) i ≡ true → on (masks a .put) i ≡ false → on offs i ≡ true
+  pub one : (a : ℕ) → a < actions → Turns (masks a .one) ons offs
+  pub two : (a : ℕ) → a < actions → Turns (masks a .two) ons offs
 
 -- the test is true in no such state, whatever the log
 abbrev pub Never : ℕ → ℕ → Test → Type 0

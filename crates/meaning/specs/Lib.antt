@@ -1,6 +1,7 @@
 pub mod Limits
 pub mod Rule
 pub mod Theory
+pub mod Four
 pub mod Written
 pub mod Leads
 pub mod Reach

@@ -1,36 +1,69 @@
--- Document 01, "Facts, actions, log": states, masks, possible, effects, and the state at a position. Document 02, Q-2: the values of variables.
+-- Document 01, "Facts, actions, log": states, masks, possible, effects, and the state at a position. Document 02, Q-6: effects that depend on the state; Q-2: the
+-- values of variables.
 use mathlib.Core.Path.{_≡_}
-use mathlib.Core.Bool.{true, false, not, _&&_, _||_}
+use mathlib.Core.Bool.{Bool, true, false, not, _&&_, _||_}
 use mathlib.Core.List.{List, [], _∷_}
 use mathlib.Core.Option.{Option}
-use Prim.Native.Nat.{ℕ, _+_}
+use Prim.Native.Nat.{ℕ, _+_, _<_}
 use lib.ListN.{take, getElem?}
-use Rattle.laws.specs.Bit.{on, gather}
+use Rattle.laws.specs.Bit.{on, gather, allBelow}
 use Rattle.meaning.specs.Limits.{fluentLimit}
 use Rattle.meaning.specs.Rule.{Variable, varV, varW, varX, varY, Name, plain, plus}
 
--- "Each action has four masks: need, ban, put, drop." Bit i of a mask names fluent i.
-pub record Masks : Type 0 where
-  pub need : ℕ
-  pub ban : ℕ
+-- Document 02, Q-6: "ten masks: need, ban, then twice when, unless, put, drop." Bit i of a mask names fluent i. The last four are a clause of the action's effects.
+pub record Clause : Type 0 where
+  pub when : ℕ
+  pub unless : ℕ
   pub put : ℕ
   pub drop : ℕ
 
-abbrev pub masksOf : ℕ → ℕ → ℕ → ℕ → Masks
-masksOf need ban put drop = record { need = need; ban = ban; put = put; drop = drop }
+pub record Masks : Type 0 where
+  pub need : ℕ
+  pub ban : ℕ
+  pub one : Clause
+  pub two : Clause
 
--- so many numbers of a mask table, and of a line of a sheet, belong to one action
+abbrev pub clauseOf : ℕ → ℕ → ℕ → ℕ → Clause
+clauseOf when unless put drop = record { when = when; unless = unless; put = put; drop = drop }
+
+abbrev pub masksOf : ℕ → ℕ → Clause → Clause → Masks
+masksOf need ban one two = record { need = need; ban = ban; one = one; two = two }
+
+-- so many numbers of a mask table belong to one action
 abbrev pub stride : ℕ
-stride = 4
+stride = 10
 
 -- "It is *possible* in a state when every need bit is on and every ban bit off."
 pub record Possible (m : Masks) (state : ℕ) : Type 0 where
   pub needed : (i : ℕ) → on (m .need) i ≡ true → on state i ≡ true
   pub banned : (i : ℕ) → on (m .ban) i ≡ true → on state i ≡ false
 
--- "After it a fluent is on when put names it, or it was on and drop does not name it (so put wins)."
+-- "A clause acts if its when bits are on and its unless bits off before the step."
+pub record Acts (c : Clause) (state : ℕ) : Type 0 where
+  pub met : (i : ℕ) → i < fluentLimit → on (c .when) i ≡ true → on state i ≡ true
+  pub clear : (i : ℕ) → i < fluentLimit → on (c .unless) i ≡ true → on state i ≡ false
+
+-- the same as a test that computes, fluent by fluent
+unfoldable pub acts : Clause → ℕ → Bool
+acts c state = allBelow fluentLimit (λ i. (not (on (c .when) i) || on state i) && (not (on (c .unless) i) || not (on state i)))
+
+-- it acts, and puts the fluent; and drops it
+abbrev pub clausePuts : Clause → ℕ → ℕ → Bool
+clausePuts c state i = on (c .put) i && acts c state
+
+abbrev pub clauseDrops : Clause → ℕ → ℕ → Bool
+clauseDrops c state i = on (c .drop) i && acts c state
+
+-- "an acting clause puts it"; "an acting clause drops it"
+abbrev pub puts : Masks → ℕ → ℕ → Bool
+puts m state i = clausePuts (m .one) state i || clausePuts (m .two) state i
+
+abbrev pub drops : Masks → ℕ → ℕ → Bool
+drops m state i = clauseDrops (m .one) state i || clauseDrops (m .two) state i
+
+-- "A fluent is then on if an acting clause puts it, or it was on and no acting clause drops it." Both clauses look at the state before the step.
 unfoldable pub after : Masks → ℕ → ℕ
-after m state = gather fluentLimit (λ i. on (m .put) i || (on state i && not (on (m .drop) i)))
+after m state = gather fluentLimit (λ i. puts m state i || (on state i && not (drops m state i)))
 
 -- what the four variables stand for
 pub record Values : Type 0 where

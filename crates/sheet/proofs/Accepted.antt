@@ -1,4 +1,4 @@
--- An accepted sheet is legal: its counts are in range, its table has four masks an action, no mask names a fluent that the theory lacks, its log is
+-- An accepted sheet is legal: its counts are in range, its table has ten masks an action, no mask names a fluent that the theory lacks, its log is
 -- good, and its rules are rules of their kinds without fault.
 use mathlib.Core.Path.{_≡_, sym, ap, _∙_, subst}
 use mathlib.Core.Logic.{_⊎_, inl, inr, ⊎-elim}
@@ -10,14 +10,16 @@ use native.Mathlib.Nat.{mul-zero, mul-suc}
 use native.Mathlib.Omega.{arith}
 use lib.ListN.{length, getD, length-append, List·getD-append}
 use lib.Seq.{getD-append-add}
+use Rattle.meaning.specs.Limits.{logLimit}
+use Rattle.meaning.specs.Theory.{stride}
 use Rattle.meaning.specs.Rule.{Kind}
 use Rattle.meaning.specs.Refusal.{Accepted, NamesLacking, OneLacking, BadLog}
 use Rattle.meaning.proofs.Refusal.{accepts, passes, not-first, not-rest}
 use Rattle.rule.specs.Outcome.{ruleRows}
 use Rattle.sheet.specs.Line.{Judge, Form, Says, judgeRows, lineRows}
 use Rattle.sheet.specs.Forms.{startForm, actForm, ruleForm}
-use Rattle.sheet.specs.Lines.{Sheet, Lines, opened, actLines, fromLog, fromStart, ReadAs, SheetSays}
-use Rattle.sheet.specs.Versions.{versionOf}
+use Rattle.sheet.specs.Lines.{Sheet, Lines, opened, actLines, belowActs, fromLog, fromStart, ReadAs, SheetSays}
+use Rattle.sheet.specs.Versions.{versionOf, tableOf}
 use Rattle.sheet.specs.declared.Version.{Version}
 use Rattle.sheet.specs.Sections.{Ranged}
 use Rattle.theory.specs.Subject.{settingOf}
@@ -25,7 +27,8 @@ use Rattle.theory.specs.Rows.{CountsOut}
 use Rattle.theory.specs.declared.Counts.{Counts}
 use Rattle.theory.specs.declared.Setting.{Setting}
 use Rattle.sheet.specs.Legal.{Legal}
-use Rattle.sheet.proofs.VersionRows.{Callable, callable}
+use Rattle.sheet.proofs.VersionRows.{usable, callable}
+use Rattle.sheet.proofs.Widen.{table-long, table-known}
 use Rattle.sheet.proofs.Domain.{past-domain}
 use Rattle.sheet.proofs.Rows.{Clean}
 use Rattle.sheet.proofs.RuleLine.{counts-good}
@@ -100,8 +103,8 @@ rule-of key kind counts bytes at text good says acc =
 
 -- what the head and the table say, and the last four lines, make a legal sheet
 last-legal :
-    (v : Version) (setting : Setting) (masks bytes : List ℕ) (at : ℕ) (sheet : Sheet) → Callable v → Ranged (setting .counts)
-    → (NamesLacking (setting .counts .fluents) (setting .start) → ⊥) → length masks ≡ v .masks * setting .counts .actions
+    (v : Version) (setting : Setting) (masks bytes : List ℕ) (at : ℕ) (sheet : Sheet) → v .log ≡ logLimit → Ranged (setting .counts)
+    → (NamesLacking (setting .counts .fluents) (setting .start) → ⊥) → length masks ≡ stride * setting .counts .actions
     → (OneLacking (setting .counts .fluents) masks → ⊥) → ReadAs (fromLog v (opened setting masks)) bytes at sheet → Legal sheet
 unfolding ReadAs
 last-legal v setting masks bytes at sheet call ranged known long none-lacks log =
@@ -110,12 +113,11 @@ last-legal v setting masks bytes at sheet call ranged known long none-lacks log 
     let more = run .3 in
     let good = counts-good (setting .counts) ranged in
     let actions = setting .counts .actions in
-    let as-called = subst (λ (n : ℕ). length masks ≡ n * actions) (call .masks) long in
-    let short = subst (λ (n : ℕ). BadLog n actions (log .0) → ⊥) (call .log) (log .1 .inRange) in
+    let short = subst (λ (n : ℕ). BadLog n actions (log .0) → ⊥) call (log .1 .inRange) in
     subst Legal (sym (more .3 .1))
     (record {
       world =
-          passes (⊎-elim good (λ bad. bad as-called)) (passes (⊎-elim known none-lacks) (passes short accepts));
+          passes (⊎-elim good (λ bad. bad long)) (passes (⊎-elim known none-lacks) (passes short accepts));
       ask = rule-of _ _ (setting .counts) bytes _ (ask .0) good (ask .1) (ask .2);
       run = rule-of _ _ (setting .counts) bytes _ (run .0) good (run .1) (run .2);
       more = λ bad. omega (arith, bad, more .1 .inRange .1);
@@ -133,9 +135,9 @@ legal bytes sheet s =
     let start = valued .reads in
     let setting = settingOf (fluents .0) (actions .0) (valued .domain) (start .0) in
     let t =
-    acts-table v (fluents .0) (actions .0) [] (λ masks. fromLog v (opened setting masks)) bytes _ sheet (λ h. absurd (omega (arith, h .there)))
+    acts-table v (fluents .0) (actions .0) [] (belowActs v setting) bytes _ sheet (λ h. absurd (omega (arith, h .there)))
     (start .3) in
-    last-legal v setting (t .masks) bytes (t .at) sheet (callable number)
+    last-legal v setting (tableOf v (actions .0) (t .masks)) bytes (t .at) sheet (callable number)
     (record {
       fewFluents = fluents .1 .inRange .1;
       someActions = actions .1 .inRange .0;
@@ -143,6 +145,6 @@ legal bytes sheet s =
       fewValues = valued .few;
     })
     (clean-of (startForm (fluents .0)) bytes _ (start .0) (start .1) (start .2) .0)
-    (omega (arith, t .long))
-    (t .known)
+    (table-long v (usable number) (actions .0) (t .masks) (omega (arith, t .long)))
+    (table-known v (usable number) (actions .0) (t .masks) (fluents .0) (t .known))
     (t .reads)

@@ -2,23 +2,30 @@
 use mathlib.Core.Path.{_≡_, refl, sym, ap, _∙_, subst, subst₂}
 use mathlib.Core.List.{List, _++_}
 use Prim.Native.Nat.{ℕ, suc, _+_, _-_, _*_, _≤_, _<_}
-use native.Mathlib.Nat.{mul-suc, mul-le-mul-left}
+use native.Mathlib.Nat.{mul-suc, mul-le-mul-left, mul-le-mul-right}
 use native.Mathlib.Numerals.{add-one}
 use native.Mathlib.Omega.{arith}
 use lib.ListN.{length, take, drop}
-use lib.Seq.{take-add, drop-drop}
+use lib.Seq.{take-add, take-at, drop-at, drop-drop}
 use Rattle.meaning.specs.Refusal.{Refused}
+use Rattle.meaning.specs.Theory.{stride}
+use Rattle.meaning.specs.Four.{plainStride}
 use Rattle.theory.specs.Subject.{settingOf}
+use Rattle.theory.specs.Plain.{plainRows}
+use Rattle.theory.proofs.Plain.{rows-long, rows-front}
+use Rattle.sheet.specs.Versions.{Usable, tableOf}
 use Rattle.sheet.specs.Line.{lineRows}
 use Rattle.sheet.specs.Forms.{actForm}
-use Rattle.sheet.specs.Lines.{Lines, opened, fromLog, actLines, fromActs, FaultIn}
+use Rattle.sheet.specs.Lines.{Lines, opened, fromLog, belowActs, actLines, fromActs, FaultIn}
 use Rattle.sheet.specs.Found.{Accepts, Below}
 use Rattle.sheet.specs.Acts.{rowAt, OnlyRow}
 use Rattle.sheet.specs.Onward.{Onward}
-use Rattle.sheet.specs.Sections.{masksIn, ActsAre}
+use Rattle.sheet.specs.Sections.{masksIn, ActsAre, tableIn, TableIs}
 use Rattle.sheet.specs.declared.Cursor.{Cursor}
 use Rattle.sheet.specs.declared.Head.{Head}
 use Rattle.sheet.specs.declared.Version.{Version}
+use Rattle.sheet.proofs.VersionRows.{few-masks}
+use Rattle.sheet.proofs.Widen.{table-plain, table-same}
 use Rattle.sheet.proofs.Order.{stays, goes-on, past-line, below-line, at-line}
 
 -- how many masks the first actions have
@@ -40,7 +47,7 @@ headBy v fluents actions last domain start = record { version = v; setting = set
 
 -- the lines that are still to come after some actions, which left this table
 abbrev toCome : Head → List ℕ → ℕ → Lines
-toCome h table left = actLines (h .version) (h .setting .counts .fluents) left table (λ masks. fromLog (h .version) (opened (h .setting) masks))
+toCome h table left = actLines (h .version) (h .setting .counts .fluents) left table (belowActs (h .version) (h .setting))
 
 -- from the head to there
 abbrev Leads : List ℕ → Head → List ℕ → ℕ → ℕ → ℕ → Type 0
@@ -132,3 +139,47 @@ acts-done bytes h entry table a last read all =
       back = subst (λ (n : ℕ). drop (masksOf h n) table ≡ drop (masksOf h n) entry) same (read .back);
       onward = subst₂ (λ (n k : ℕ). Leads bytes h (take (masksOf h n) table) k (last .end + 1) (last .line + 1)) same none (read .onward);
     }
+
+-- the rows of a call's table have room for their masks
+pub masks-fit : (h : Head) → Usable (h .version) → masksIn h ≤ tableIn h
+masks-fit h u = mul-le-mul-right (h .setting .counts .actions) (few-masks (h .version) u)
+
+-- and the table is what they say: rows that are made from four masks each, or the masks themselves
+module _ (bytes : List ℕ) (h : Head) (entry exit : List ℕ) (c : Cursor) (read : ActsAre bytes h entry exit c) where
+  abbrev actions : ℕ
+  actions = h .setting .counts .actions
+
+  behind : masksIn h ≤ tableIn h → drop (tableIn h) exit ≡ drop (tableIn h) entry
+  behind few =
+      let more = tableIn h - masksIn h in
+      let all : masksIn h + more ≡ tableIn h = omega arith in
+      ap (λ (n : ℕ). drop n exit) (sym all) ∙ sym (drop-drop more (masksIn h) exit) ∙ ap (drop more) (read .back) ∙ drop-drop more (masksIn h) entry
+      ∙ ap (λ (n : ℕ). drop n entry) all
+
+  tabled : (exit′ : List ℕ) → drop (tableIn h) exit′ ≡ drop (tableIn h) exit → masksIn h ≤ tableIn h
+      → tableOf (h .version) actions (take (masksIn h) exit) ≡ take (tableIn h) exit′ → TableIs bytes h entry exit′ c
+  tabled exit′ back few same = record {
+    below = read .below;
+    back = back ∙ behind few;
+    onward =
+        subst
+        (λ (t : List ℕ). Onward (fromActs (h .version) (h .setting)) bytes (h .last .end + 1) (h .last .line + 1) (fromLog (h .version) (opened (h .setting) t)) (c .end + 1) (c .line + 1))
+        same (read .onward);
+  }
+
+  pub table-widened : (exit′ : List ℕ) → h .version .masks ≡ plainStride → exit′ ≡ plainRows exit 0 actions ++ drop (tableIn h) exit → TableIs bytes h entry exit′ c
+  table-widened exit′ e w =
+      let rows = plainRows exit 0 actions in
+      let rest = drop (tableIn h) exit in
+      let long = rows-long exit 0 actions in
+      let count : masksIn h ≡ plainStride * actions = ap (λ (n : ℕ). n * actions) e in
+      tabled exit′ (ap (drop (tableIn h)) w ∙ drop-at rows rest (tableIn h) long) (omega arith)
+      (table-plain (h .version) actions (take (masksIn h) exit) e
+      ∙ ap (λ (n : ℕ). plainRows (take n exit) 0 actions) count
+      ∙ rows-front exit actions 0 actions (omega arith)
+      ∙ sym (ap (take (tableIn h)) w ∙ take-at rows rest (tableIn h) long))
+
+  pub table-kept : h .version .masks ≡ stride → TableIs bytes h entry exit c
+  table-kept e =
+      let count : masksIn h ≡ tableIn h = ap (λ (n : ℕ). n * actions) e in
+      tabled exit refl (omega arith) (table-same (h .version) actions (take (masksIn h) exit) e ∙ ap (λ (n : ℕ). take n exit) count)

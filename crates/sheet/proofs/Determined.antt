@@ -10,8 +10,8 @@ use Rattle.refusal.proofs.Numbers.{one-number}
 use Rattle.meaning.proofs.Refusal.{refused-unique, refused-not-accepted}
 use Rattle.rule.specs.Outcome.{PartAt}
 use Rattle.theory.specs.Subject.{countsOf, settingOf}
-use Rattle.sheet.specs.Lines.{Sheet, Lines, line, none, opened, actLines, fromLog, domainThen, fromStart, sheetLines, valueAt, nextAt, ReadAs, FaultIn, SheetRefused, SheetSays}
-use Rattle.sheet.specs.Versions.{versionOf}
+use Rattle.sheet.specs.Lines.{Sheet, Lines, line, none, opened, actLines, belowActs, fromLog, domainThen, fromStart, sheetLines, valueAt, nextAt, ReadAs, FaultIn, SheetRefused, SheetSays}
+use Rattle.sheet.specs.Versions.{versionOf, tableOf}
 use Rattle.sheet.specs.declared.Version.{Version}
 use Rattle.theory.specs.declared.Counts.{Counts}
 use Rattle.sheet.specs.Answer.{parsedOf, fronted, SheetAnswered}
@@ -83,7 +83,7 @@ start-lines-clear v c = (
   start-clear (c .fluents),
   λ start _ _.
       let s = settingOf (c .fluents) (c .actions) (c .domain) start in
-      acts-clear v (c .fluents) (c .actions) [] (λ masks. fromLog v (opened s masks)) (λ masks. last-clear v (opened s masks)),
+      acts-clear v (c .fluents) (c .actions) [] (belowActs v s) (λ masks. last-clear v (opened s (tableOf v (c .actions) masks))),
 )
 
 domain-clear : (valued : Bool) (next : ℕ → Lines) → ((domain : ℕ) → AllClear (next domain)) → AllClear (domainThen valued next)

@@ -9,11 +9,13 @@ pub mod MaskRow
 pub mod Forms
 pub mod RuleLine
 pub mod LogSteps
+pub mod Widen
 pub mod Whole
 pub mod Acts
 pub mod Last
 pub mod Determined
 pub mod Accepted
+pub mod Older
 pub mod Longest
 pub mod Places
 pub mod Cut

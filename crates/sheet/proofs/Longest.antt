@@ -1,4 +1,4 @@
--- "With 64 actions the longest sheet has 3,263 bytes", one of version 2 3,273: no sheet of a version whose lines are right is longer, so refusal 1 keeps no
+-- "With 64 actions the longest sheet has 3,263 bytes", one of version 2 3,273, one of version 3 6,729: no sheet of a version whose lines are right is longer, so refusal 1 keeps no
 -- such sheet out.
 use mathlib.Core.Path.{ap, _∙_, subst}
 use mathlib.Core.Logic.{inl, inr}
@@ -18,10 +18,10 @@ use Rattle.spelling.proofs.Numeral.{length-numeral}
 use Rattle.spelling.proofs.LogText.{log-long}
 use Rattle.sheet.specs.Line.{Form, Says, lineWidth}
 use Rattle.sheet.specs.Masks.{rowWidth}
-use Rattle.sheet.specs.Versions.{versionOf}
+use Rattle.sheet.specs.Versions.{versionOf, tableOf}
 use Rattle.sheet.specs.Forms.{versionForm, fluentsForm, actionsForm, domainForm, startForm, actForm, logForm, askForm, runForm, moreForm}
 use Rattle.sheet.specs.Longest.{moreWidth, runWidth, askWidth, logWidth, actsWidth, startWidth, domainWidth, actionsWidth, fluentsWidth, longest, sheetLimit}
-use Rattle.sheet.specs.Lines.{Sheet, Lines, line, none, opened, withLog, withAsk, withRun, fromMore, fromRun, fromAsk, fromLog, actLines, fromActs, domainThen, fromStart, fromFluents, sheetLines, valueAt, nextAt, ReadAs}
+use Rattle.sheet.specs.Lines.{Sheet, Lines, line, none, opened, withLog, withAsk, withRun, fromMore, fromRun, fromAsk, fromLog, actLines, belowActs, fromActs, domainThen, fromStart, fromFluents, sheetLines, valueAt, nextAt, ReadAs}
 use Rattle.sheet.specs.declared.Version.{Version}
 use Rattle.theory.specs.declared.Counts.{Counts}
 use Rattle.sheet.proofs.VersionRows.{of-each}
@@ -112,7 +112,7 @@ start-at-most v c few =
     at-line (startForm (c .fluents)) _ (actsWidth v) (λ n word. omega (arith, length-numeral 16 8 n)) λ start _ _.
     let s = settingOf (c .fluents) (c .actions) (c .domain) start in
     wider (fromActs v s) (c .actions * lineWidth form + logWidth v) (actsWidth v) (omega (arith, mul-le-mul-right (lineWidth form) few))
-    (acts-at-most v (c .fluents) (c .actions) [] (λ masks. fromLog v (opened s masks)) (logWidth v) (λ masks. log-at-most v (opened s masks)))
+    (acts-at-most v (c .fluents) (c .actions) [] (belowActs v s) (logWidth v) (λ masks. log-at-most v (opened s (tableOf v (c .actions) masks))))
 
 -- the line of the domain takes its width where there is one
 domain-at-most :
@@ -140,7 +140,7 @@ version-longest bytes sheet number says r =
 
 -- and none is longer than the limit of all
 each-within : (number : ℕ) → longest (versionOf number) ≤ sheetLimit
-each-within = of-each (λ v. longest v ≤ sheetLimit) (omega arith, (omega arith, tt))
+each-within = of-each (λ v. longest v ≤ sheetLimit) (omega arith, (omega arith, (omega arith, tt)))
 
 pub sheet-longest : (bytes : List ℕ) (sheet : Sheet) → ReadAs sheetLines bytes 0 sheet → length bytes ≤ sheetLimit
 unfolding ReadAs

@@ -12,8 +12,8 @@ use Rattle.theory.specs.declared.Setting.{Setting}
 use Rattle.spelling.specs.Numeral.{lf}
 use Rattle.spelling.specs.Scan.{stretch}
 use Rattle.sheet.specs.Line.{Line}
-use Rattle.sheet.specs.Versions.{versionOf}
-use Rattle.sheet.specs.Lines.{Sheet, Lines, line, none, opened, actLines, fromLog, fromActs, domainThen, fromStart, sheetLines, ReadAs, FaultIn, SheetRefused, SheetSays}
+use Rattle.sheet.specs.Versions.{versionOf, tableOf}
+use Rattle.sheet.specs.Lines.{Sheet, Lines, line, none, opened, actLines, belowActs, fromLog, fromActs, domainThen, fromStart, sheetLines, ReadAs, FaultIn, SheetRefused, SheetSays}
 use Rattle.sheet.specs.declared.Version.{Version}
 use Rattle.sheet.proofs.Domain.{past-domain}
 
@@ -64,8 +64,8 @@ standing bytes s says =
     past-domain (v .valued) (λ domain. fromStart v (record { fluents = fluents .0; actions = actions .0; domain = domain })) bytes _ s (actions .3) in
     let start = valued .reads in
     let setting = settingOf (fluents .0) (actions .0) (valued .domain) (start .0) in
-    let log = behind v (fluents .0) (actions .0) [] (λ masks. fromLog v (opened setting masks)) bytes _ s (start .3) in
-    last-standing v setting (log .masks) bytes (log .at) s (log .reads)
+    let log = behind v (fluents .0) (actions .0) [] (belowActs v setting) bytes _ s (start .3) in
+    last-standing v setting (tableOf v (actions .0) (log .masks)) bytes (log .at) s (log .reads)
 
 -- there are at most so many lines
 abbrev Most : ℕ → Lines → Type 0
@@ -109,7 +109,7 @@ sheet-most number _ _ fluents _ _ actions range _ =
     (λ domain start _ _.
     let s = settingOf fluents actions domain start in
     more-lines (fromActs v s) (actions + 4) 993 (omega (arith, range .1))
-    (acts-most v fluents actions [] (λ masks. fromLog v (opened s masks)) 4 (λ masks log _ _ ask _ _ run _ _ more _ _. tt)))
+    (acts-most v fluents actions [] (belowActs v s) 4 (λ masks log _ _ ask _ _ run _ _ more _ _. tt)))
 
 -- a place has at most three digits
 pub place-small : (bytes : List ℕ) (number place : ℕ) → SheetRefused bytes number place → place < 1000

@@ -1,7 +1,8 @@
 -- Laws of the versions' rows: what holds of each row holds of the row of every number.
 use mathlib.Core.Path.{_≡_, refl}
+use mathlib.Core.Logic.{inl, inr, ⊎-elim}
 use mathlib.Core.List.{List, [], _∷_}
-use Prim.Native.Nat.{ℕ, zero, suc, _-_}
+use Prim.Native.Nat.{ℕ, zero, suc, _-_, _≤_}
 use native.Mathlib.Omega.{arith}
 use lib.ListN.{getD}
 use Rattle.meaning.specs.Limits.{logLimit}
@@ -25,22 +26,31 @@ of-each P each number = row-of P versions sheet1 (each .0) each (number - 1)
 -- every version's row can be read by
 pub usable : (number : ℕ) → Usable (versionOf number)
 usable =
-    of-each Usable
-    (record { some = omega arith; few = omega arith; short = omega arith }, (record { some = omega arith; few = omega arith; short = omega arith }, tt))
+    of-each Usable (
+      record { rows = inl refl; short = omega arith },
+      (
+        record { rows = inl refl; short = omega arith },
+        (record { rows = inr refl; short = omega arith }, tt),
+      ),
+    )
 
--- Its actions have the masks that a call has, and its log is as long as a call's may be.
-pub record Callable (v : Version) : Type 0 where
-  pub masks : v .masks ≡ stride
-  pub log : v .log ≡ logLimit
+module _ (v : Version) (u : Usable v) where
+  pub some-masks : 1 ≤ v .masks
+  some-masks = ⊎-elim (λ e. omega arith) (λ e. omega arith) (u .rows)
 
-pub callable : (number : ℕ) → Callable (versionOf number)
-callable = of-each Callable (record { masks = refl; log = refl }, (record { masks = refl; log = refl }, tt))
+  pub few-masks : v .masks ≤ stride
+  few-masks = ⊎-elim (λ e. omega arith) (λ e. omega arith) (u .rows)
+
+-- Its log is as long as a call's may be.
+pub callable : (number : ℕ) → versionOf number .log ≡ logLimit
+callable = of-each (λ v. v .log ≡ logLimit) (refl, (refl, (refl, tt)))
 
 -- a number without a row of its own has the first
-pub first-row : (number : ℕ) → (number ≡ 2 → ⊥) → sheet1 ≡ versionOf number
-first-row number other = go (number - 1) refl
+pub first-row : (number : ℕ) → (number ≡ 2 → ⊥) → (number ≡ 3 → ⊥) → sheet1 ≡ versionOf number
+first-row number second third = go (number - 1) refl
   where
     go : (i : ℕ) → number - 1 ≡ i → sheet1 ≡ getD versions i sheet1
     go zero e = refl
-    go (suc zero) e = absurd (other (omega arith))
-    go (suc (suc i)) e = refl
+    go (suc zero) e = absurd (second (omega arith))
+    go (suc (suc zero)) e = absurd (third (omega arith))
+    go (suc (suc (suc i))) e = refl

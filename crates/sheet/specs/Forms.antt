@@ -27,7 +27,7 @@ numberForm key width low high =
       judges = [];
     }
 
--- `sheet=1`, `sheet=2`
+-- `sheet=1`, `sheet=2`, `sheet=3`
 abbrev pub versionForm : Form
 versionForm = numberForm (bytes "sheet=") digitWidth 1 newest
 

@@ -5,6 +5,7 @@ pub mod Line
 pub mod Forms
 pub mod Longest
 pub mod Lines
+pub mod Older
 pub mod Found
 pub mod Acts
 pub mod Log

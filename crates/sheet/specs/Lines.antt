@@ -10,7 +10,7 @@ use Rattle.theory.specs.Subject.{Subject, settingOf, subjectOf, countsOf}
 use Rattle.theory.specs.declared.Counts.{Counts}
 use Rattle.theory.specs.declared.Setting.{Setting}
 use Rattle.sheet.specs.Line.{Form, Says, lineRows, endRows}
-use Rattle.sheet.specs.Versions.{versionOf}
+use Rattle.sheet.specs.Versions.{versionOf, tableOf}
 use Rattle.sheet.specs.Longest.{sheetLimit}
 use Rattle.sheet.specs.Forms.{versionForm, fluentsForm, actionsForm, domainForm, startForm, actForm, logForm, askForm, runForm, moreForm}
 use Rattle.sheet.specs.declared.Version.{Version}
@@ -71,8 +71,12 @@ abbrev pub actLines : Version → ℕ → ℕ → List ℕ → (List ℕ → Lin
 actLines v fluents zero table next = next table
 actLines v fluents (suc actions) table next = line (actForm v fluents) (λ row at. actLines v fluents actions (table ++ row) next)
 
+-- and those below them, whose masks these are
+abbrev pub belowActs : Version → Setting → List ℕ → Lines
+belowActs v s masks = fromLog v (opened s (tableOf v (s .counts .actions) masks))
+
 abbrev pub fromActs : Version → Setting → Lines
-fromActs v s = actLines v (s .counts .fluents) (s .counts .actions) [] (λ masks. fromLog v (opened s masks))
+fromActs v s = actLines v (s .counts .fluents) (s .counts .actions) [] (belowActs v s)
 
 -- "`sheet=1`, `fluents=NN` .., `actions=NN` .., `start=` 8 hex digits, then one line per action"
 abbrev pub fromStart : Version → Counts → Lines

@@ -6,7 +6,7 @@ use Prim.Native.Nat.{ℕ, _+_, _*_, max}
 use Rattle.meaning.specs.Limits.{actionLimit}
 use Rattle.theory.specs.declared.Counts.{Counts}
 use Rattle.sheet.specs.Line.{lineWidth}
-use Rattle.sheet.specs.Versions.{sheet1, sheet2, versions}
+use Rattle.sheet.specs.Versions.{sheet1, sheet2, sheet3, versions}
 use Rattle.sheet.specs.Forms.{versionForm, fluentsForm, actionsForm, domainForm, startForm, actForm, logForm, askForm, runForm, moreForm}
 use Rattle.sheet.specs.declared.Version.{Version}
 
@@ -54,12 +54,15 @@ longestOf (v ∷ vs) = max (longest v) (longestOf vs)
 abbrev pub sheetLimit : ℕ
 sheetLimit = longestOf versions
 
--- "With 64 actions the longest sheet has 3,263 bytes", one of version 2 the bytes of a line more: "Sheet limit 3,273."
+-- "With 64 actions the longest sheet has 3,263 bytes", one of version 2 the bytes of a line more: "Sheet limit 3,273"; with ten masks a line "Sheet limit 6,729."
 pub as-documented : longest sheet1 ≡ 3263
 as-documented = refl
 
 pub as-requested : longest sheet2 ≡ 3273
 as-requested = refl
 
-pub for-every-version : sheetLimit ≡ 3273
+pub with-clauses : longest sheet3 ≡ 6729
+with-clauses = refl
+
+pub for-every-version : sheetLimit ≡ 6729
 for-every-version = refl

@@ -5,10 +5,11 @@ use Prim.Native.Nat.{ℕ, _+_, _*_, _≤_}
 use lib.ListN.{length, take, drop}
 use Rattle.refusal.specs.Number.{numberOf}
 use Rattle.meaning.specs.Limits.{fluentLimit, actionLimit, domainLimit}
+use Rattle.meaning.specs.Theory.{stride}
 use Rattle.theory.specs.Subject.{Subject}
 use Rattle.theory.specs.declared.Counts.{Counts}
 use Rattle.sheet.specs.Versions.{Usable}
-use Rattle.sheet.specs.Lines.{Sheet, Lines, opened, fromLog, fromActs, sheetLines, ReadAs, FaultIn}
+use Rattle.sheet.specs.Lines.{Sheet, Lines, opened, fromLog, belowActs, fromActs, sheetLines, ReadAs, FaultIn}
 use Rattle.sheet.specs.Found.{Below}
 use Rattle.sheet.specs.Answer.{parsedOf, fronted}
 use Rattle.sheet.specs.Onward.{Onward}
@@ -45,24 +46,40 @@ pub record ActsAsked (bytes : List ℕ) (h : Head) (table : List ℕ) : Type 0 w
   pub usable : Usable (h .version)
   pub ranged : Ranged (h .setting .counts)
   pub below : Below bytes (h .last)
-  pub room : h .version .masks * h .setting .counts .actions ≤ length table
+  pub room : stride * h .setting .counts .actions ≤ length table
 
 -- how many masks the lines of the actions have
 abbrev pub masksIn : Head → ℕ
 masksIn h = h .version .masks * h .setting .counts .actions
 
--- the lines of the actions are read: their masks stand at the front of the table, nothing behind has changed, and the last four lines come next
+-- the lines of the actions are read: their masks stand one after the other at the front of the table, nothing behind has changed, and the last four lines come next
 pub record ActsAre (bytes : List ℕ) (h : Head) (entry exit : List ℕ) (c : Cursor) : Type 0 where
   pub below : Below bytes c
   pub back : drop (masksIn h) exit ≡ drop (masksIn h) entry
   pub onward :
       Onward (fromActs (h .version) (h .setting)) bytes (h .last .end + 1) (h .last .line + 1)
-      (fromLog (h .version) (opened (h .setting) (take (masksIn h) exit))) (c .end + 1) (c .line + 1)
+      (belowActs (h .version) (h .setting) (take (masksIn h) exit)) (c .end + 1) (c .line + 1)
 
 abbrev pub ActsFound : List ℕ → Head → List ℕ → List ℕ → LineAnswer → Type 0
 ActsFound bytes h entry exit (Faulty f) =
     FaultIn (fromActs (h .version) (h .setting)) bytes (h .last .end + 1) (h .last .line + 1) (numberOf (f .refusal)) (f .line)
 ActsFound bytes h entry exit (Next c) = ActsAre bytes h entry exit c
+
+-- the same with the table that a call has: a row for each action
+abbrev pub tableIn : Head → ℕ
+tableIn h = stride * h .setting .counts .actions
+
+pub record TableIs (bytes : List ℕ) (h : Head) (entry exit : List ℕ) (c : Cursor) : Type 0 where
+  pub below : Below bytes c
+  pub back : drop (tableIn h) exit ≡ drop (tableIn h) entry
+  pub onward :
+      Onward (fromActs (h .version) (h .setting)) bytes (h .last .end + 1) (h .last .line + 1)
+      (fromLog (h .version) (opened (h .setting) (take (tableIn h) exit))) (c .end + 1) (c .line + 1)
+
+abbrev pub TableFound : List ℕ → Head → List ℕ → List ℕ → LineAnswer → Type 0
+TableFound bytes h entry exit (Faulty f) =
+    FaultIn (fromActs (h .version) (h .setting)) bytes (h .last .end + 1) (h .last .line + 1) (numberOf (f .refusal)) (f .line)
+TableFound bytes h entry exit (Next c) = TableIs bytes h entry exit c
 
 -- the lines from here on are read, nothing follows them, and this is what the sheet says, which is about this subject
 pub record SheetIs (lines : Lines) (bytes : List ℕ) (at : ℕ) (subject : Subject) (p : Parsed) : Type 0 where

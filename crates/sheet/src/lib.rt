@@ -81,7 +81,7 @@ pub enum SheetAnswer {
 }
 
 // Document 02: the longest sheet of any version.
-pub const SHEET_LIMIT: usize = 3273;
+pub const SHEET_LIMIT: usize = 6729;
 
 // Room for the masks of as many actions as there may be, and for the steps of the longest log.
 pub const MASKS_ROOM: usize = STRIDE * ACTION_LIMIT;
@@ -97,7 +97,7 @@ fn read_lines(sheet: &[u8], masks: &mut [u32; MASKS_ROOM], log: &mut [u8; LOG_RO
         HeadAnswer::Read(h) => {
             let version = h.version;
             let setting = h.setting;
-            match act::read_acts(sheet, h, masks) {
+            match act::read_table(sheet, h, masks) {
                 LineAnswer::Faulty(f) => SheetAnswer::Faulty(f),
                 LineAnswer::Next(c) => {
                     let said = closing::nothing_yet(setting);

@@ -4,23 +4,29 @@ ghost use Rattle.sheet.specs.Versions.{versionOf};
 use crate::Version;
 use positions::PositionSet;
 use theory::STRIDE;
+use theory::rows::PLAIN_STRIDE;
 
 // The newest version that there is.
-pub(crate) const NEWEST: u32 = 2;
+pub(crate) const NEWEST: u32 = 3;
 
 // The row of a version's number.
 pub(crate) fn version_of(number: u32) -> Version
     ensures { λ r. ⌜ r ≡ versionOf number ⌝ }
 {
     match number {
-        2 => Version {
+        3 => Version {
             valued: true,
             masks: STRIDE,
             log: PositionSet::LOG_LIMIT,
         },
+        2 => Version {
+            valued: true,
+            masks: PLAIN_STRIDE,
+            log: PositionSet::LOG_LIMIT,
+        },
         _ => Version {
             valued: false,
-            masks: STRIDE,
+            masks: PLAIN_STRIDE,
             log: PositionSet::LOG_LIMIT,
         },
     }

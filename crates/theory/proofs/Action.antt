@@ -1,20 +1,22 @@
--- What the word operations of one step mean: a mask met within a state, a mask barred from it, and the state after. Knows bits and the meaning of
--- `Possible` and `after`; no code.
+-- What the word operations of one step mean: a mask met within a state, a mask barred from it, a clause that acts, and the state after. Knows bits and the
+-- meaning of `acts` and `after`; no code.
 use mathlib.Core.Path.{_≡_, refl, sym, ap, _∙_}
 use mathlib.Core.Logic.{_↔_}
-use mathlib.Core.Bool.{Bool, true, false, not, _&&_, _||_}
+use mathlib.Core.Bool.{Bool, true, false, not, _&&_, _||_, and-true, and-false}
 use Prim.Native.Nat.{ℕ, _-_, _^_, _≤_, _<_}
 use borrow.Author.Tests.{ltb-false}
-use lib.Bits.{bitAnd, bitOr}
+use lib.Bits.{bitAnd, bitOr, or-lt}
 use lib.Dec.{ltb}
 use Rattle.laws.specs.Bit.{on}
-use Rattle.laws.proofs.On.{same-bits, on-none, on-high}
+use Rattle.laws.proofs.On.{same-bits, on-none, on-high, on-below}
 use Rattle.laws.proofs.Bitwise.{on-and, on-or}
 use Rattle.laws.proofs.Shift.{on-not}
 use Rattle.laws.proofs.Gather.{on-gather}
 use Rattle.laws.proofs.Truth.{and-iff, no-truth, off-on, same-truth}
 use Rattle.meaning.specs.Limits.{fluentLimit}
-use Rattle.meaning.specs.Theory.{Masks, Possible, after}
+use Rattle.meaning.specs.Theory.{Clause, Masks, acts, after}
+use Rattle.meaning.proofs.Effects.{acts-tells}
+use Rattle.theory.specs.Step.{Met, Effected}
 
 -- every bit of the mask is on in the state
 pub met-iff : (mask state : ℕ) → (bitAnd mask state ≡ mask) ↔ ((i : ℕ) → on mask i ≡ true → on state i ≡ true)
@@ -39,22 +41,39 @@ barred-iff mask state = (
       off-on (all i (both .0)) (both .1)))),
 )
 
--- "when every need bit is on and every ban bit off"
-pub possible-iff : (m : Masks) (state : ℕ) → ((bitAnd (m .need) state ≡ m .need) × (bitAnd (m .ban) state ≡ 0)) ↔ Possible m state
-possible-iff m state = (
-  λ h. record { needed = met-iff (m .need) state .0 (h .0); banned = barred-iff (m .ban) state .0 (h .1) },
-  λ h. (met-iff (m .need) state .1 (h .needed), barred-iff (m .ban) state .1 (h .banned)),
+pub both-iff : (ons offs state : ℕ) → ((bitAnd ons state ≡ ons) × (bitAnd offs state ≡ 0)) ↔ Met ons offs state
+both-iff ons offs state = (
+  λ h. (met-iff ons state .0 (h .0), barred-iff offs state .0 (h .1)),
+  λ h. (met-iff ons state .1 (h .0), barred-iff offs state .1 (h .1)),
 )
 
--- "After it a fluent is on when put names it, or it was on and drop does not name it"
-pub after-word : (m : Masks) (state : ℕ) → m .put < 2 ^ fluentLimit → m .drop < 2 ^ fluentLimit → state < 2 ^ fluentLimit
-    → bitOr (m .put) (bitAnd state ((2 ^ fluentLimit - 1) - m .drop)) ≡ after m state
+-- "its when bits are on and its unless bits off", of masks that are words
+pub acts-iff : (c : Clause) (state : ℕ) → c .when < 2 ^ fluentLimit → c .unless < 2 ^ fluentLimit → (acts c state ≡ true) ↔ Met (c .when) (c .unless) state
+acts-iff c state w u = (
+  λ e.
+      let h = acts-tells c state .0 e in
+      (λ i o. h .met i (on-below fluentLimit w o) o, λ i o. h .clear i (on-below fluentLimit u o) o),
+  λ h. acts-tells c state .1 (record { met = λ i l. h .0 i; clear = λ i l. h .1 i }),
+)
+
+-- a clause that acts, and one that does not
+module _ (c : Clause) (state : ℕ) where
+  pub effected : acts c state ≡ true → Effected c state (c .put) (c .drop)
+  effected e = record { puts = λ i. rw (e, and-true); drops = λ i. rw (e, and-true) }
+
+  pub unaffected : acts c state ≡ false → Effected c state 0 0
+  unaffected e = record { puts = λ i. rw (e, and-false, on-none); drops = λ i. rw (e, and-false, on-none) }
+
+-- "A fluent is then on if an acting clause puts it, or it was on and no acting clause drops it"
+pub after-word : (m : Masks) (state put drop put′ drop′ : ℕ) → Effected (m .one) state put drop → Effected (m .two) state put′ drop′
+    → put < 2 ^ fluentLimit → drop < 2 ^ fluentLimit → put′ < 2 ^ fluentLimit → drop′ < 2 ^ fluentLimit → state < 2 ^ fluentLimit
+    → bitOr (bitOr put put′) (bitAnd state ((2 ^ fluentLimit - 1) - bitOr drop drop′)) ≡ after m state
 unfolding after
-after-word m state p d s = same-bits _ _ (λ i.
-    rw (on-or, on-and, on-not fluentLimit d, on-gather)
-    (go (ltb i fluentLimit) (on (m .put) i) (on state i) (not (on (m .drop) i)) (λ far.
+after-word m state put drop put′ drop′ one two p d p′ d′ s = same-bits _ _ (λ i.
+    rw (on-or (bitOr put put′) _ i, on-and, on-not fluentLimit (or-lt fluentLimit drop drop′ d d′), on-or put put′ i, on-or drop drop′ i, on-gather, ← one .puts i, ← one .drops i, ← two .puts i, ← two .drops i)
+    (go (ltb i fluentLimit) (on put i || on put′ i) (on state i) (not (on drop i || on drop′ i)) (λ far.
     let beyond : fluentLimit ≤ i = ltb-false i fluentLimit far in
-    (on-high fluentLimit p beyond, on-high fluentLimit s beyond))))
+    (rw (on-high fluentLimit p beyond, on-high fluentLimit p′ beyond), on-high fluentLimit s beyond))))
   where
     go : (below put was kept : Bool) → (below ≡ false → (put ≡ false) × (was ≡ false))
         → (put || (was && (below && kept))) ≡ (below && (put || (was && kept)))

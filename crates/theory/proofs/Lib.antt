@@ -3,3 +3,4 @@ pub mod Lacking
 pub mod Reading
 pub mod Determined
 pub mod Any
+pub mod Plain

@@ -1,4 +1,6 @@
 pub mod Subject
+pub mod Step
+pub mod Plain
 pub mod Rows
 pub mod Union
 pub mod Check

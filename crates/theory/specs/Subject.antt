@@ -1,10 +1,10 @@
 -- What a library call is asked of: the numbers that it is given by value, its mask table and its log; and the meaning's world of it. The mask table is one flat
--- list, four masks an action in the order need, ban, put, drop. Knows the call's arguments and the meaning's World, and no code.
+-- list, ten masks an action in the order need, ban, then twice when, unless, put, drop. Knows the call's arguments and the meaning's World, and no code.
 use mathlib.Core.List.{List}
 use Prim.Native.Nat.{ℕ, _+_, _*_, _≤_, _<_}
 use lib.ListN.{length, getD}
 use Rattle.meaning.specs.Limits.{actionLimit, logLimit}
-use Rattle.meaning.specs.Theory.{Masks, World, masksOf, noValues, stride}
+use Rattle.meaning.specs.Theory.{Clause, Masks, World, clauseOf, masksOf, noValues, stride}
 use Rattle.theory.specs.declared.Counts.{Counts}
 use Rattle.theory.specs.declared.Setting.{Setting}
 
@@ -27,10 +27,14 @@ subjectOf setting masks log = record { setting = setting; masks = masks; log = l
 abbrev pub countsOf : Subject → Counts
 countsOf s = s .setting .counts
 
+-- the clause whose masks stand from this place of the table on
+abbrev pub clauseAt : List ℕ → ℕ → Clause
+clauseAt masks at = clauseOf (getD masks at 0) (getD masks (at + 1) 0) (getD masks (at + 2) 0) (getD masks (at + 3) 0)
+
 -- action a of the table; one that the table lacks has empty masks
 abbrev pub tableMasks : List ℕ → ℕ → Masks
 tableMasks masks a =
-    masksOf (getD masks (stride * a) 0) (getD masks (stride * a + 1) 0) (getD masks (stride * a + 2) 0) (getD masks (stride * a + 3) 0)
+    masksOf (getD masks (stride * a) 0) (getD masks (stride * a + 1) 0) (clauseAt masks (stride * a + 2)) (clauseAt masks (stride * a + 6))
 
 abbrev pub worldOf : Subject → World
 worldOf s =

@@ -7,17 +7,18 @@ ghost use Rattle.theory.specs.Possible;
 ghost use Rattle.theory.specs.Possible.{verdictGiven, PossibleAnswered};
 
 pub mod step; // step.rt: one action in one state
+pub mod rows; // rows.rt: a row of the table from four masks
 pub mod log; // log.rt: the state after some steps of a log
 pub mod faults; // faults.rt: refusals 3, 4 and 5
 
 use refusal::Refusal;
 
-// The limits of document 01, and how many masks of a table belong to one action.
+// The limits of document 01, and how many masks of a table belong to one action: need, ban, then twice when, unless, put, drop.
 pub const FLUENT_LIMIT: usize = 32;
 
 pub const ACTION_LIMIT: usize = 64;
 
-pub const STRIDE: usize = 4;
+pub const STRIDE: usize = 10;
 
 // "`domain=NN` (01 to 16)": the values that a variable can have.
 pub const DOMAIN_LIMIT: usize = 16;

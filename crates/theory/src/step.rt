@@ -2,28 +2,20 @@
 ghost use mathlib.Core.Path.{_≡_};
 ghost use mathlib.Core.Logic.{_↔_};
 ghost use mathlib.Core.Bool.{true};
-ghost use Prim.Native.Nat.{ℕ, _+_, _*_, _≤_};
+ghost use Prim.Native.Nat.{_+_, _*_, _≤_};
 ghost use lib.ListN.{length};
-ghost use Rattle.meaning.specs.Theory.{Possible, stride, masksOf};
-ghost use Rattle.meaning.specs.Theory;
-ghost use Rattle.theory.specs.Subject.{tableMasks};
+ghost use Rattle.meaning.specs.Theory.{Possible, stride, after};
+ghost use Rattle.theory.specs.Subject.{clauseAt, tableMasks};
+ghost use Rattle.theory.specs.Step.{Met, Effected};
 use crate::STRIDE;
 
-// Every need bit is on and every ban bit off.
-fn possible(need: u32, ban: u32, state: u32) -> bool
-    ensures { λ r. ⌜ ((put drop : ℕ) → (r ≡ true) ↔ Possible (masksOf need ban put drop) state) ⌝ }
+// Every bit of the one mask is on in the state, and every bit of the other off.
+fn met(ons: u32, offs: u32, state: u32) -> bool
+    ensures { λ r. ⌜ (r ≡ true) ↔ Met ons offs state ⌝ }
 {
-    let met = need & state;
-    let barred = ban & state;
-    met == need && barred == 0
-}
-
-// What put names is on, and of the rest what was on and drop does not name.
-fn after(put: u32, drop: u32, state: u32) -> u32
-    ensures { λ r. ⌜ ((need ban : ℕ) → r ≡ Theory.after (masksOf need ban put drop) state) ⌝ }
-{
-    let kept = state & !drop;
-    put | kept
+    let shown = ons & state;
+    let barred = offs & state;
+    shown == ons && barred == 0
 }
 
 // Action a of the table is possible in the state.
@@ -34,16 +26,46 @@ pub fn able(masks: &[u32], a: usize, state: u32) -> bool
     let row = STRIDE * a;
     let need = masks[row];
     let ban = masks[row + 1];
-    possible(need, ban, state)
+    met(need, ban, state)
 }
 
-// The state after action a of the table, possible or not.
+// What a clause does in a state.
+struct Effect {
+    put: u32,
+    drop: u32,
+}
+
+// The clause from this place of the table on: what it puts and drops if it acts, and else nothing.
+fn clause(masks: &[u32], at: usize, state: u32) -> Effect
+    requires { ⌜ at + 4 ≤ length (now masks) ⌝ }
+    ensures { λ r. ⌜ Effected (clauseAt (now (masks .entry)) at) state (r .put) (r .drop) ⌝ }
+{
+    let when = masks[at];
+    let unless = masks[at + 1];
+    let put = masks[at + 2];
+    let drop = masks[at + 3];
+    if met(when, unless, state) {
+        return Effect { put, drop };
+    }
+    Effect { put: 0, drop: 0 }
+}
+
+// The state after action a of the table, possible or not: what an acting clause puts is on, and of the rest what was on and no acting clause drops.
 pub fn act(masks: &[u32], a: usize, state: u32) -> u32
     requires { ⌜ stride * a + stride ≤ length (now masks) ⌝ }
-    ensures { λ r. ⌜ r ≡ Theory.after (tableMasks (now (masks .entry)) a) state ⌝ }
+    ensures { λ r. ⌜ r ≡ after (tableMasks (now (masks .entry)) a) state ⌝ }
 {
     let row = STRIDE * a;
-    let put = masks[row + 2];
-    let drop = masks[row + 3];
-    after(put, drop, state)
+    let first = row + 2;
+    let second = row + 6;
+    let one = clause(masks, first, state);
+    let put = one.put;
+    let drop = one.drop;
+    let two = clause(masks, second, state);
+    let put2 = two.put;
+    let drop2 = two.drop;
+    let puts = put | put2;
+    let drops = drop | drop2;
+    let kept = state & !drops;
+    puts | kept
 }

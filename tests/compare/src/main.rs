@@ -183,7 +183,7 @@ fn read_sheets(sheet: &[u8], text: &str, tally: &mut Tally) {
             same("room of a refused sheet", &text, room, SheetRoom::new());
         }
         Ok(r) => {
-            let masks: Vec<u32> = r.theory.masks.iter().flat_map(|m| [m.need, m.ban, m.put, m.drop]).collect();
+            let masks: Vec<u32> = r.theory.masks.iter().flat_map(|m| m.row()).collect();
             let (t, steps) = (&r.theory, r.log.len());
             let numbers = [0, t.fluents, t.actions, r.domain, t.start as usize, steps, r.ask.0, r.ask.1, r.run.0, r.run.1, r.more];
             same("read_sheet", &text, calls::read_sheet(sheet), (0, SheetLent::with(&masks, &r.log, numbers)));

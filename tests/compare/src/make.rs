@@ -51,28 +51,43 @@ fn mask(d: &mut Dice, fluents: usize) -> u32 {
     m & all
 }
 
+/// So many masks of a table belong to one action.
+pub const ROW: usize = 10;
+
+/// A mask that is mostly empty: a condition that rarely holds would leave nothing possible, and no clause acting.
+fn rarely(d: &mut Dice, fluents: usize) -> u32 {
+    if d.once_in(3) {
+        mask(d, fluents)
+    } else {
+        0
+    }
+}
+
+/// The row of an action; a plain one has one clause without conditions, and an empty one.
+fn row(d: &mut Dice, fluents: usize, plain: bool) -> [u32; ROW] {
+    let (need, ban) = (rarely(d, fluents), rarely(d, fluents));
+    let mut clause = |nothing: bool| match nothing {
+        true => [0; 4],
+        false => [if plain { 0 } else { rarely(d, fluents) }, if plain { 0 } else { rarely(d, fluents) }, mask(d, fluents), mask(d, fluents)],
+    };
+    let ([a, b, c, e], [f, g, h, i]) = (clause(false), clause(plain));
+    [need, ban, a, b, c, e, f, g, h, i]
+}
+
 pub fn input(d: &mut Dice) -> Input {
     let fluents = d.pick(&[0, 1, 2, 3, 5, 31, 32]);
     let actions = d.pick(&[1, 2, 3, 4, 6, 63, 64]);
-    let mut masks: Vec<u32> = (0..4 * actions).map(|_| mask(d, fluents)).collect();
+    let plain = d.once_in(3);
+    let mut masks: Vec<u32> = (0..actions).flat_map(|_| row(d, fluents, plain)).collect();
     let start = mask(d, fluents);
-    // Needs and bans that rarely hold would leave nothing possible.
-    for a in 0..actions {
-        if !d.once_in(3) {
-            masks[4 * a] = 0;
-        }
-        if !d.once_in(4) {
-            masks[4 * a + 1] = 0;
-        }
-    }
     // Actions that do what a smaller one does, or nearly: the search tries the smaller one alone.
     if d.once_in(3) {
         for a in 1..actions {
             if d.once_in(2) {
-                let like = 4 * d.below(a);
-                masks.copy_within(like..like + 4, 4 * a);
+                let like = ROW * d.below(a);
+                masks.copy_within(like..like + ROW, ROW * a);
                 if d.once_in(3) {
-                    masks[4 * a + d.below(4)] = mask(d, fluents);
+                    masks[ROW * a + d.below(ROW)] = mask(d, fluents);
                 }
             }
         }
@@ -289,13 +304,14 @@ fn steps(d: &mut Dice, actions: usize, most: usize) -> String {
 fn alike(d: &mut Dice) -> Input {
     let fluents = 1 + d.below(4);
     let actions = 2 + d.below(4);
-    let mut masks: Vec<u32> = (0..4 * actions).map(|k| if k % 4 < 2 && !d.once_in(3) { 0 } else { mask(d, fluents) }).collect();
+    let plain = d.once_in(3);
+    let mut masks: Vec<u32> = (0..actions).flat_map(|_| row(d, fluents, plain)).collect();
     for a in 1..actions {
         if !d.once_in(3) {
-            let model = d.below(a);
-            masks.copy_within(4 * model..4 * model + 4, 4 * a);
+            let model = ROW * d.below(a);
+            masks.copy_within(model..model + ROW, ROW * a);
             if d.once_in(3) {
-                masks[4 * a + d.below(4)] ^= 1 << d.below(fluents);
+                masks[ROW * a + d.below(ROW)] ^= 1 << d.below(fluents);
             }
         }
     }
@@ -365,21 +381,25 @@ pub fn bound(d: &mut Dice, kind: u8, i: &Input) -> (Vec<u8>, Input) {
 pub fn sheet(d: &mut Dice) -> Vec<u8> {
     let i = loop {
         let i = input(d);
-        if i.fluents < 100 && i.actions < 100 && i.domain < 100 && i.masks.len() % 4 == 0 {
+        if i.fluents < 100 && i.actions < 100 && i.domain < 100 && i.masks.len() % ROW == 0 {
             break i;
         }
     };
     let more = if i.actions > 4 { d.below(3) } else { d.below(5) };
     let (run, i) = run(d, &i, more);
     let hex = |m: &u32| format!("{m:08x}");
-    // Version 1 has no domain; now and then one with it, or version 2 without.
-    let version = if d.once_in(30) { d.pick(&[0, 1, 2, 3]) } else { 1 + i.domain.min(1) };
+    // Version 1 has no domain, and only version 3 has conditions; now and then it is otherwise.
+    let depends = i.masks.chunks(ROW).any(|m| m[2..4] != [0; 2] || m[6..] != [0; 4]);
+    let right = if i.domain == 0 { 1 } else if depends || d.once_in(4) { 3 } else { 2 };
+    let version = if d.once_in(30) { d.pick(&[0, 1, 2, 3, 4]) } else { right };
+    let ten = (version == 3) != d.once_in(60);
     let mut s = format!("sheet={version}\nfluents={:02}\nactions={:02}\n", i.fluents, i.actions);
-    if (version == 2) != d.once_in(30) {
+    if (version > 1) != d.once_in(30) {
         s += &format!("domain={:02}\n", i.domain);
     }
     s += &format!("start={}\n", hex(&i.start));
-    for m in i.masks.chunks(4) {
+    for m in i.masks.chunks(ROW) {
+        let m = if ten { m.to_vec() } else { [&m[..2], &m[4..6]].concat() };
         s += &format!("act={}\n", m.iter().map(hex).collect::<Vec<_>>().join(","));
     }
     s += &format!("log={}\n", i.log.iter().map(|a| format!("{a:02}")).collect::<String>());
@@ -405,6 +425,6 @@ fn damage_sheet(d: &mut Dice, s: &mut Vec<u8>) {
         2 => s.insert(k, d.pick(b"\n0f=,")),
         3 => s.truncate(k),
         4 => s.extend_from_slice(b"more=1\n"),
-        _ => s.resize(d.pick(&[3262, 3263, 3264, 3272, 3273, 3274, 5000]), b'0'),
+        _ => s.resize(d.pick(&[3263, 3273, 5000, 6728, 6729, 6730, 9000]), b'0'),
     }
 }

@@ -5,7 +5,7 @@
 #[path = "../../../rust/desk/src/raw.rs"]
 mod raw;
 
-use wyndhopper::Job;
+use wyndhopper::{plain_row, Job};
 
 /// What stands in a slot before a call.
 const FILLED: u8 = 0x5a;
@@ -29,10 +29,10 @@ fn same<T: PartialEq + std::fmt::Debug>(what: &str, input: &dyn std::fmt::Debug,
     }
 }
 
-/// The theory whose print k needs all lower labels: four masks an action, the void last.
+/// The theory whose print k needs all lower labels, the void last.
 fn masks(cartons: usize) -> Vec<u32> {
-    let print = |k: usize| [(1 << k) - 1, 0, 1 << k, 0];
-    let void = [0, 0, 0, (1 << cartons) - 1];
+    let print = |k: usize| plain_row((1 << k) - 1, 0, 1 << k, 0);
+    let void = plain_row(0, 0, 0, (1 << cartons) - 1);
     (0..cartons).map(print).chain([void]).flatten().collect()
 }
 

@@ -1,4 +1,5 @@
-//! Document 01, "The sheet" and "The answering program"; document 02, Q-2: "Sheet=2 has a line `domain=NN` (01 to 16) after `actions`."
+//! Document 01, "The sheet" and "The answering program"; document 02, Q-2: "Sheet=2 has a line `domain=NN` (01 to 16) after `actions`"; Q-6: "Sheet=3 keeps the domain line and
+//! gives each action line ten masks."
 use crate::ask::{World, NO_VALUES};
 use crate::finish::first;
 use crate::rule::{exactly, Counts, Kind, Rule, Test, Walk};
@@ -76,6 +77,7 @@ fn theory(lines: &mut Lines) -> Result<(Theory, usize), Fault> {
     let version = match lines.next("sheet=")? {
         b"1" => 1,
         b"2" => 2,
+        b"3" => 3,
         _ => return lines.fault(3),
     };
     let fluents = match two(lines.next("fluents=")?) {
@@ -95,14 +97,14 @@ fn theory(lines: &mut Lines) -> Result<(Theory, usize), Fault> {
     for _ in 0..actions {
         let value = lines.next("act=")?;
         let parts: Vec<Option<u32>> = value.split(|&b| b == b',').map(hex).collect();
-        if parts.len() != 4 || parts.iter().any(Option::is_none) {
+        if parts.len() != if version == 3 { 10 } else { 4 } || parts.iter().any(Option::is_none) {
             return lines.fault(3);
         }
         let m: Vec<u32> = parts.into_iter().flatten().collect();
         if m.iter().any(|&m| lacking(fluents, m)) {
             return lines.fault(4);
         }
-        masks.push(Masks { need: m[0], ban: m[1], put: m[2], drop: m[3] });
+        masks.push(if version == 3 { Masks::of_ten(&m) } else { Masks::of_four(&m) });
     }
     Ok((Theory { fluents, actions, start, masks }, domain))
 }
@@ -125,9 +127,10 @@ fn stretch(sheet: &[u8], value: &[u8]) -> (usize, usize) {
     (begin, begin + value.len())
 }
 
-/// Reads a sheet: what it says, or the refusal's number with its line. "Sheet limit 3,273", whatever its version.
+/// Reads a sheet: what it says, or the refusal's number with its line. "Sheet limit 6,729", and "refusal 1 uses the largest limit of
+/// all versions".
 pub fn read(sheet: &[u8]) -> Result<Read, Fault> {
-    if sheet.len() > 3273 {
+    if sheet.len() > 6729 {
         return Err((1, 0));
     }
     let mut lines = Lines { rest: sheet, line: 0 };
@@ -181,7 +184,7 @@ mod tests {
         use crate::ask::{reach, verdict};
         use crate::rule::Counts;
         let c = Counts { fluents: 2, actions: 3, domain: 0 };
-        let t = [0, 0, 1, 0, 1, 0, 2, 0, 0, 0, 0, 3];
+        let t = crate::theory::widened(&[0, 0, 1, 0, 1, 0, 2, 0, 0, 0, 0, 3]);
         let (l, m): (&[u8], &[u8]) = (&[0, 1, 2, 0], &[1, 0]);
         let set = |log, text: &str, then, now| reach(c, 0, &t, log, text.as_bytes(), then, now).unwrap().set;
         assert_eq!(set(l, "a00", 0, 4), 2);

@@ -5,7 +5,8 @@ use oracle::finish::finish;
 use oracle::rule::Counts;
 
 const COUNTS: Counts = Counts { fluents: 2, actions: 3, domain: 0 };
-const MASKS: [u32; 12] = [0, 0, 1, 0, 1, 0, 2, 0, 0, 0, 0, 3];
+/// Print 1, print 2 which needs label 1, void both.
+const MASKS: [u32; 30] = [0, 0, 0, 0, 1, 0, 0, 0, 0, 0, 1, 0, 0, 0, 2, 0, 0, 0, 0, 0, 0, 0, 0, 0, 0, 3, 0, 0, 0, 0];
 const M: &[u8] = &[1, 0];
 const L: &[u8] = &[0, 1, 2, 0];
 

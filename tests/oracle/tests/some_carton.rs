@@ -7,7 +7,8 @@ use oracle::rule::{exactly, read, Counts, Kind};
 use oracle::sheet::answer;
 use oracle::written::written_out;
 
-const MASKS: [u32; 12] = [0, 0, 1, 0, 1, 0, 2, 0, 0, 0, 0, 3];
+/// Print 1, print 2 which needs label 1, void both.
+const MASKS: [u32; 30] = [0, 0, 0, 0, 1, 0, 0, 0, 0, 0, 1, 0, 0, 0, 2, 0, 0, 0, 0, 0, 0, 0, 0, 0, 0, 3, 0, 0, 0, 0];
 const L: &[u8] = &[0, 1, 2, 0];
 const E: &[u8] = &[];
 
@@ -119,29 +120,26 @@ fn sheets() {
     for domain in ["01", "16"] {
         assert_eq!(sheet(&top("2", &format!("domain={domain}\n")), "1"), "verdict=yes\nstate=00000001\nfinish=01\n", "{domain}");
     }
-    assert_eq!(sheet("sheet=3\n", "1"), "refused=3,line=1\n");
+    assert_eq!(sheet("sheet=9\n", "1"), "refused=3,line=1\n");
 }
 
-/// The longest sheet of version 2 has 3,273 bytes; the limit is the same for version 1.
+/// The longest sheets of version 1 and 2 have 3,263 and 3,273 bytes, and are accepted.
 #[test]
-fn the_limit_of_a_sheet() {
+fn the_longest_sheets() {
     let act = "act=00000000,00000000,00000000,00000000\n".repeat(64);
     // 255 bytes of a sign with two parts, in eights
     let rule = |sign: &str, leaf: &str| {
         let two = format!("{sign}{leaf}{leaf}");
         format!("{sign}{sign}{two}{two}").repeat(15) + &format!("{sign}{two}{two}")
     };
-    let longest = |top: &str, tail: &str| {
+    let longest = |top: &str| {
         let (log, ask, run) = ("00".repeat(63), rule("&", "f00"), rule("|", "a00"));
-        format!("{top}start=00000000\n{act}log={log}\nask={ask}\nrun={run}\nmore=6\n{tail}").into_bytes()
+        format!("{top}start=00000000\n{act}log={log}\nask={ask}\nrun={run}\nmore=6\n").into_bytes()
     };
     let (one, two) = ("sheet=1\nfluents=32\nactions=64\n", "sheet=2\nfluents=32\nactions=64\ndomain=16\n");
     let right = "verdict=no\nstate=00000000\nfinish=none\n";
-    assert_eq!((longest(one, "").len(), longest(two, "").len()), (3263, 3273));
-    assert_eq!((answer(&longest(one, "")), answer(&longest(two, ""))), (right.to_string(), right.to_string()));
-    assert_eq!(answer(&longest(two, "\n")), "refused=1,line=0\n");
-    assert_eq!((answer(&longest(one, "\n")), answer(&longest(one, "0123456789"))), ("refused=2,line=73\n".to_string(), "refused=2,line=73\n".to_string()));
-    assert_eq!(answer(&longest(one, "01234567890")), "refused=1,line=0\n");
+    assert_eq!((longest(one).len(), longest(two).len()), (3263, 3273));
+    assert_eq!((answer(&longest(one)), answer(&longest(two))), (right.to_string(), right.to_string()));
 }
 
 /// Every walk and test here leads where the rule written out leads, over every log of up to five steps, from every position.

@@ -4,7 +4,8 @@ use oracle::rule::Counts;
 use oracle::tally::{afresh, append, happened};
 
 const COUNTS: Counts = Counts { fluents: 2, actions: 3, domain: 0 };
-const MASKS: [u32; 12] = [0, 0, 1, 0, 1, 0, 2, 0, 0, 0, 0, 3];
+/// Print 1, print 2 which needs label 1, void both.
+const MASKS: [u32; 30] = [0, 0, 0, 0, 1, 0, 0, 0, 0, 0, 1, 0, 0, 0, 2, 0, 0, 0, 0, 0, 0, 0, 0, 0, 0, 3, 0, 0, 0, 0];
 
 fn told(log: &[u8]) -> (Vec<u8>, Vec<u8>, u8, Vec<bool>) {
     let t = afresh(2, 3, 0, &MASKS, log).unwrap();

@@ -1,10 +1,13 @@
 -- `answer::decide` meets its contract: a refused sheet has its number and line, and the parts of an accepted one are asked about as they are handed back.
 use mathlib.Core.Path.{refl, sym, subst}
+use Prim.Native.Nat.{_*_}
 use native.Mathlib.Omega.{arith}
 use borrow.Author.Needs.{needs}
 use denote.Ref.{now}
 use lib.ListN.{replicate}
 use lib.Seq.{length-take-le}
+use Rattle.meaning.specs.Limits.{actionLimit}
+use Rattle.meaning.specs.Theory.{stride}
 use Rattle.sheet.specs.Answer.{SheetAnswered}
 use Rattle.sheet.specs.declared.SheetAnswer.{SheetAnswer}
 use Rattle.sheet.specs.declared.Parsed.{Parsed}
@@ -32,7 +35,7 @@ abbrev start : tie.After-read-sheet → tie.Start
 start c = c .before .before .before .before
 
 abbrev Answered : tie.After-read-sheet → SheetAnswer → Type 0
-Answered c a = SheetAnswered (now (start c .args .sheet)) (replicate 256 0) (replicate 64 0) a (c .read-sheet .last .1 .0) (c .read-sheet .last .1 .1 .0)
+Answered c a = SheetAnswered (now (start c .args .sheet)) (replicate (stride * actionLimit) 0) (replicate 64 0) a (c .read-sheet .last .1 .0) (c .read-sheet .last .1 .1 .0)
 
 -- what an accepted sheet hands back
 abbrev reading : tie.After-known-told2 → tie.After-read-sheet

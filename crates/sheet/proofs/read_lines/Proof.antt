@@ -6,7 +6,7 @@ use native.Mathlib.Omega.{arith}
 use lib.ListN.{take}
 use borrow.Author.Needs.{needs}
 use Rattle.sheet.specs.Lines.{opened, sheetLines}
-use Rattle.sheet.specs.Sections.{Ranged, HeadIs, HeadFound, masksIn, ActsAre, ActsFound}
+use Rattle.sheet.specs.Sections.{Ranged, HeadIs, HeadFound, tableIn, TableIs, TableFound}
 use Rattle.sheet.specs.declared.Head.{Head}
 use Rattle.sheet.proofs.Whole.{room-for, lines-found}
 use Rattle.sheet.proofs.read_lines.Statement.{statement}
@@ -31,15 +31,15 @@ head-of k = k .before .h .given .0 .0
 head-is : (k : tie.After-known-told2) → HeadIs sheetLines (entry k .args .sheet .now) 0 1 (head-of k)
 head-is k = subst (HeadFound sheetLines (entry k .args .sheet .now) 0 1) (k .before .h .given .1) (k .before .before .before .read-head .ensures)
 
-read-acts-requires : tie.Need-read-acts-requires
-read-acts-requires c κs =
+read-table-requires : tie.Need-read-table-requires
+read-table-requires c κs =
     let k = c .before .before .before in
     let h = head-is k in
     record {
       usable = h .usable;
       ranged = h .ranged;
       below = h .below;
-      room = omega (arith, room-for (head-of k) (h .usable) (h .ranged), c .read-acts-arg .given);
+      room = omega (arith, room-for (head-of k) (h .ranged), c .read-table-arg .given);
     }
 
 enum-known-f-2 : tie.Need-enum-known-f-2
@@ -52,20 +52,20 @@ nothing-yet-requires : tie.Need-nothing-yet-requires
 nothing-yet-requires c κs = search needs
 
 -- the lines of the actions
-abbrev up : tie.After-read-acts → tie.After-known-told2
+abbrev up : tie.After-read-table → tie.After-known-told2
 up r = r .before .before .before .before
 
-abbrev masks : tie.After-read-acts → List ℕ
-masks r = r .read-acts .last .1 .1 .0
+abbrev masks : tie.After-read-table → List ℕ
+masks r = r .read-table .last .1 .1 .0
 
-abbrev called : tie.After-known-told4 → tie.After-read-acts
+abbrev called : tie.After-known-told4 → tie.After-read-table
 called m = m .before .before .before
 
 acts-are : (m : tie.After-known-told4) → let r = called m in
-    ActsAre (entry (up r) .args .sheet .now) (head-of (up r)) (entry (up r) .args .masks .now) (masks r) (m .before .c .given .0 .0)
+    TableIs (entry (up r) .args .sheet .now) (head-of (up r)) (entry (up r) .args .masks .now) (masks r) (m .before .c .given .0 .0)
 acts-are m =
     let r = called m in
-    subst (ActsFound (entry (up r) .args .sheet .now) (head-of (up r)) (entry (up r) .args .masks .now) (masks r)) (m .before .c .given .1) (r .read-acts .ensures)
+    subst (TableFound (entry (up r) .args .sheet .now) (head-of (up r)) (entry (up r) .args .masks .now) (masks r)) (m .before .c .given .1) (r .read-table .ensures)
 
 read-log-requires : tie.Need-read-log-requires
 read-log-requires c κs =
@@ -84,7 +84,7 @@ returns-2 c =
     let r = c .before .before .before in
     let k = up r in
     head-is k .onward .faults _ _
-    (subst (ActsFound (entry k .args .sheet .now) (head-of k) (entry k .args .masks .now) (masks r)) (c .before .f2 .given .1) (r .read-acts .ensures))
+    (subst (TableFound (entry k .args .sheet .now) (head-of k) (entry k .args .masks .now) (masks r)) (c .before .f2 .given .1) (r .read-table .ensures))
 
 returns-3 : tie.Need-returns-3
 returns-3 c =
@@ -93,9 +93,9 @@ returns-3 c =
     let k = up r in
     let a = entry k .args in
     let h = head-of k in
-    let table = take (masksIn h) (masks r) in
+    let table = take (tableIn h) (masks r) in
     lines-found (a .sheet .now) h (a .masks .now) (masks r) (a .log .now) _ (m .before .c .given .0 .0) (head-is k) (acts-are m)
-    (omega (arith, r .read-acts .kept .1 .1 .0, room-for h (head-is k .usable) (head-is k .ranged), r .before .read-acts-arg .given))
+    (omega (arith, r .read-table .kept .1 .1 .0, room-for h (head-is k .ranged), r .before .read-table-arg .given))
     (c .read-log .result)
     (c .read-log .ensures (opened (h .setting) table) (c .before .before .nothing-yet .ensures table))
 
@@ -106,7 +106,7 @@ read-lines-spec =
     read-head-requires
     enum-known-f
     enum-known-h
-    read-acts-requires
+    read-table-requires
     enum-known-f-2
     enum-known-c
     nothing-yet-requires

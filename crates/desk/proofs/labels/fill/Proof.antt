@@ -2,7 +2,7 @@
 use mathlib.Core.Path.{_≡_, subst}
 use Prim.Native.Nat.{_≤_, _-_}
 use native.Mathlib.Omega.{arith}
-use Rattle.desk.proofs.Table.{Filled, own-mask, own-some, same-masks, filled-none, filled-more, filled-all}
+use Rattle.desk.proofs.Table.{Filled, own-mask, own-some, same-masks, row-set, filled-none, filled-more, filled-all}
 use Rattle.desk.proofs.labels.fill.Statement.{statement}
 use Rattle.desk.proofs.labels.fill.Tie as tie
 
@@ -24,8 +24,8 @@ shl-own c = omega arith
 sub-lower : tie.Need-sub-lower Inv-loop μ-loop
 sub-lower c = own-some (c .before .loop .a) (omega arith)
 
-row-requires : tie.Need-row-requires Inv-loop μ-loop
-row-requires c κs = (omega arith, c .before .before .loop .inv .1 .room)
+plain-row-requires : tie.Need-plain-row-requires Inv-loop μ-loop
+plain-row-requires c κs = omega (arith, c .before .before .loop .inv .1 .room)
 
 add-a : tie.Need-add-a Inv-loop μ-loop
 add-a c = omega arith
@@ -37,7 +37,8 @@ loop-again : tie.Need-loop-again Inv-loop μ-loop
 loop-again c =
     let loop = c .before .before .before .loop in
     let own = own-mask (loop .a) (omega arith) in
-    (omega arith, filled-more (c .row .ensures) (same-masks (omega (arith, own)) (omega arith) own (omega arith)) (loop .inv .1))
+    let set = row-set _ _ (loop .a) _ _ _ _ (omega arith) (loop .inv .1 .room) (c .plain-row .ensures) in
+    (omega arith, filled-more set (same-masks (omega (arith, own)) (omega arith) own (omega arith)) (loop .inv .1))
 
 cast-beyond : tie.Need-cast-beyond Inv-loop μ-loop
 cast-beyond c = omega arith
@@ -48,8 +49,8 @@ shl-beyond c = omega arith
 sub-all : tie.Need-sub-all Inv-loop μ-loop
 sub-all c = own-some (c .before .before .args .cartons) (omega arith)
 
-row-requires-2 : tie.Need-row-requires-2 Inv-loop μ-loop
-row-requires-2 c κs = (omega arith, c .before .before .loop .inv .1 .room)
+plain-row-requires-2 : tie.Need-plain-row-requires-2 Inv-loop μ-loop
+plain-row-requires-2 c κs = omega (arith, c .before .before .loop .inv .1 .room)
 
 returns : tie.Need-returns Inv-loop μ-loop
 returns c =
@@ -57,7 +58,8 @@ returns c =
     let cartons = c .before .before .before .before .args .cartons in
     let ends : loop .a ≡ cartons = omega arith in
     let all = own-mask cartons (omega arith) in
-    filled-all (omega arith) (c .row2 .ensures) (same-masks (omega arith) (omega arith) (omega arith) (omega (arith, all))) (subst (Filled (loop .masks)) ends (loop .inv .1))
+    let set = row-set _ _ cartons _ _ _ _ (omega arith) (loop .inv .1 .room) (c .plain-row2 .ensures) in
+    filled-all (omega arith) set (same-masks (omega arith) (omega arith) (omega arith) (omega (arith, all))) (subst (Filled (loop .masks)) ends (loop .inv .1))
 
 pub fill-spec : {M : Type 1} → statement M
 fill-spec =
@@ -69,12 +71,12 @@ fill-spec =
     cast-own
     shl-own
     sub-lower
-    row-requires
+    plain-row-requires
     add-a
     loop-less
     loop-again
     cast-beyond
     shl-beyond
     sub-all
-    row-requires-2
+    plain-row-requires-2
     returns)

@@ -1,6 +1,8 @@
--- `finish::standins::alike` meets its contract: need and ban are compared, and the effects.
-use mathlib.Core.Bool.{false≢true}
+-- `finish::standins::alike` meets its contract: need and ban are compared, and the clauses one by one.
+use mathlib.Core.Path.{refl}
+use mathlib.Core.Bool.{true, false≢true}
 use borrow.Author.Needs.{needs}
+use Rattle.laws.proofs.Truth.{implies-iff}
 use Rattle.finish.proofs.standins.alike.Statement.{statement}
 use Rattle.finish.proofs.standins.alike.Tie as tie
 
@@ -46,51 +48,36 @@ shared-slice-read-ban2 c = search needs
 returns-2 : tie.Need-returns-2
 returns-2 c = λ e. absurd (false≢true e)
 
-add-put : tie.Need-add-put
-add-put c = search needs
+add-first : tie.Need-add-first
+add-first c = search needs
 
-mul-put : tie.Need-mul-put
-mul-put c = search needs
+add-first2 : tie.Need-add-first2
+add-first2 c = search needs
 
-shared-slice-read-put : tie.Need-shared-slice-read-put
-shared-slice-read-put c = search needs
-
-add-drop : tie.Need-add-drop
-add-drop c = search needs
-
-mul-drop : tie.Need-mul-drop
-mul-drop c = search needs
-
-shared-slice-read-drop : tie.Need-shared-slice-read-drop
-shared-slice-read-drop c = search needs
-
-add-put2 : tie.Need-add-put2
-add-put2 c = search needs
-
-mul-put2 : tie.Need-mul-put2
-mul-put2 c = search needs
-
-shared-slice-read-put2 : tie.Need-shared-slice-read-put2
-shared-slice-read-put2 c = search needs
-
-add-drop2 : tie.Need-add-drop2
-add-drop2 c = search needs
-
-mul-drop2 : tie.Need-mul-drop2
-mul-drop2 c = search needs
-
-shared-slice-read-drop2 : tie.Need-shared-slice-read-drop2
-shared-slice-read-drop2 c = search needs
-
-same-effects-requires : tie.Need-same-effects-requires
-same-effects-requires c κs = search needs
+same-clause-requires : tie.Need-same-clause-requires
+same-clause-requires c κs = search needs
 
 returns-3 : tie.Need-returns-3
-returns-3 c = λ e.
-    let needs = c .before .before .before .before .before .before .before .before .if1 .left in
-    let bans = c .before .before .before .before .before .if2 .left in
-    let same = c .same-effects .ensures e 0 0 in
-    record { need = needs; ban = bans; put = same .put; drop = same .drop }
+returns-3 c = λ e. absurd (false≢true e)
+
+add-second : tie.Need-add-second
+add-second c = search needs
+
+add-second2 : tie.Need-add-second2
+add-second2 c = search needs
+
+same-clause-requires-2 : tie.Need-same-clause-requires-2
+same-clause-requires-2 c κs = search needs
+
+returns-4 : tie.Need-returns-4
+returns-4 c = λ e.
+    let first = c .before .before .same-clause in
+    record {
+      need = c .before .before .before .before .before .before .if1 .left;
+      ban = c .before .before .before .if2 .left;
+      one = first .ensures (implies-iff true (first .result) .0 (c .before .if3 .left) refl);
+      two = c .same-clause2 .ensures e;
+    }
 
 pub alike-spec : {M : Type 1} → statement M
 alike-spec =
@@ -110,17 +97,11 @@ alike-spec =
     mul-ban2
     shared-slice-read-ban2
     returns-2
-    add-put
-    mul-put
-    shared-slice-read-put
-    add-drop
-    mul-drop
-    shared-slice-read-drop
-    add-put2
-    mul-put2
-    shared-slice-read-put2
-    add-drop2
-    mul-drop2
-    shared-slice-read-drop2
-    same-effects-requires
-    returns-3)
+    add-first
+    add-first2
+    same-clause-requires
+    returns-3
+    add-second
+    add-second2
+    same-clause-requires-2
+    returns-4)

@@ -21,6 +21,7 @@ use Rattle.sheet.proofs.Forms.{act-clear}
 use Rattle.sheet.proofs.Rows.{judged}
 use Rattle.sheet.proofs.Say.{passed-on, unsaid, says, accepted}
 use borrow.Author.Needs.{needs}
+use Rattle.sheet.proofs.VersionRows.{some-masks, few-masks}
 use Rattle.sheet.proofs.act.act_line.Statement.{statement}
 use Rattle.sheet.proofs.act.act_line.Tie as tie
 
@@ -49,7 +50,7 @@ read-masks-requires : tie.Need-read-masks-requires
 read-masks-requires c κs =
     let s = stood (c .before) in
     let pre = entry (c .before) .pre in
-    (s .onward, omega (arith, s .within), pre .1 .some, pre .1 .few, pre .3)
+    (s .onward, omega (arith, s .within), some-masks _ (pre .1), few-masks _ (pre .1), pre .3)
 
 same-length : tie.Need-same-length
 same-length c = search needs

@@ -6,7 +6,7 @@ use native.Mathlib.Omega.{arith}
 use Rattle.sheet.specs.Forms.{actForm}
 use Rattle.sheet.specs.Found.{LineRead}
 use Rattle.sheet.specs.Acts.{rowAt}
-use Rattle.sheet.proofs.Acts.{Acts, headBy, row-within, acts-none, acts-fault, acts-more, acts-done}
+use Rattle.sheet.proofs.Acts.{Acts, headBy, row-within, masks-fit, acts-none, acts-fault, acts-more, acts-done}
 use Rattle.sheet.proofs.act.read_acts.Statement.{statement}
 use Rattle.sheet.proofs.act.read_acts.Tie as tie
 
@@ -34,7 +34,7 @@ mul-act-line c =
     let turn = c .before .before .before .before in
     let s = entry turn in
     let fits = row-within (s .args .head) (turn .loop .a) (c .before .before .before .loop-test .taken) in
-    record { fits = omega (arith, fits, s .pre .room) }
+    record { fits = omega (arith, fits, s .pre .room, masks-fit (s .args .head) (s .pre .usable)) }
 
 act-line-requires : tie.Need-act-line-requires Inv-loop μ-loop
 act-line-requires c κs =
@@ -42,7 +42,7 @@ act-line-requires c κs =
     let s = entry turn in
     let read = turn .loop .inv 0 0 in
     let fits = row-within (s .args .head) (turn .loop .a) (c .before .before .before .loop-test .taken) in
-    (omega (arith, read .below .within), s .pre .usable, s .pre .ranged .fewFluents, omega (arith, fits, s .pre .room, read .long))
+    (omega (arith, read .below .within), s .pre .usable, s .pre .ranged .fewFluents, omega (arith, fits, s .pre .room, read .long, masks-fit (s .args .head) (s .pre .usable)))
 
 enum-known-f : tie.Need-enum-known-f Inv-loop μ-loop
 enum-known-f c = c .match .keys1

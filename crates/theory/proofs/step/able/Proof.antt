@@ -21,11 +21,14 @@ mul-ban c = search needs
 shared-slice-read-ban : tie.Need-shared-slice-read-ban
 shared-slice-read-ban c = search needs
 
-possible-requires : tie.Need-possible-requires
-possible-requires c κs = search needs
+met-requires : tie.Need-met-requires
+met-requires c κs = search needs
 
 returns : tie.Need-returns
-returns c = c .possible .ensures _ _
+returns c = (
+  λ e. let h = c .met .ensures .0 e in record { needed = h .0; banned = h .1 },
+  λ h. c .met .ensures .1 (h .needed, h .banned),
+)
 
 pub able-spec : {M : Type 1} → statement M
 able-spec =
@@ -37,5 +40,5 @@ able-spec =
     add-ban
     mul-ban
     shared-slice-read-ban
-    possible-requires
+    met-requires
     returns)
