@@ -34,6 +34,17 @@ static void verdict(const struct wyh_job *job, const char *test) {
     printf("  %s\n", yes ? "yes" : "no");
 }
 
+/* The bytes that are told, and one behind them that is not touched. */
+static void board(const struct wyh_job *job, const char *tests, size_t room) {
+    uint8_t out[WYH_BOARD_ROOM + 1];
+    size_t count, k;
+    memset(out, 99, sizeof out);
+    told("board", wyh_job_board(job, bytes(tests), strlen(tests), job->log_len, job->log_len, out, room, &count));
+    printf("  %lu tests:", (unsigned long)count);
+    for (k = 0; k <= count; k++) printf(" %d", out[k]);
+    printf("\n");
+}
+
 static void possible(const struct wyh_job *job, size_t action, size_t position) {
     uint8_t yes;
     uint8_t refused = wyh_job_possible(job, action, position, &yes);
@@ -114,8 +125,10 @@ static void variables(const struct wyh_job *job) {
     reach(job, "pvb00v", 0);
     some.domain = 2;
     verdict(&some, "evg00v");
+    board(&some, "evg00v\ng00v\nevg01v\n", WYH_BOARD_ROOM);
     some.domain = 17;
     verdict(&some, "1");
+    board(&some, "1\n", WYH_BOARD_ROOM);
 }
 
 /* Effects that depend: 00 puts label 01 when the carton, 00, is open; 01 closes it; 02 opens it. The states, what is left to do, and a table of the wrong length. */
@@ -178,6 +191,7 @@ static void nothing(const struct wyh_job *job) {
     told("no theory", wyh_job_state(&empty, 0, &state));
     told("no walk", wyh_job_reach(job, NULL, 0, 0, 0, &reached));
     told("no test", wyh_job_verdict(job, NULL, 0, 0, 0, &yes));
+    told("no tests and no output", wyh_job_board(job, NULL, 0, 0, 0, NULL, 0, &count));
     told("no run", wyh_job_next(job, NULL, 0, &set));
     told("no tally", wyh_job_tally(&empty, &tally));
     told("no sheet", wyh_job_read_sheet(NULL, 0, masks, log, &sheet));
@@ -220,6 +234,9 @@ int main(void) {
     reach(&job, "a03", 0);
     verdict(&job, "<-;a00*n!<;*na011");
     verdict(&job, "");
+    board(&job, "1\n!1\n\nf02\n!!!!!!!!!!!!!!!!!!!!!!!!1\n<-;a00*n!<;*na011\n", WYH_BOARD_ROOM);
+    board(&job, "1\nf00", WYH_BOARD_ROOM);
+    board(&job, "1\nf00\n", 1);
     possible(&job, 1, 4);
     possible(&job, 1, 0);
     possible(&job, 3, 0);

@@ -7,11 +7,11 @@
  * What a program must see to: pointers are valid and aligned for what they point to; lent memory (output and slots) overlaps nothing else that is passed.
  *
  * What a call may cost.
- *   Time: every call ends; a usual question takes about a microsecond, and no verdict or reach of a rule without variables more than some milliseconds. A binder goes over its part once for
- *         each value, so binders nested k deep can take the domain to the power of k times as long as their part alone. A finish whose run names its labels tries one action a step. A run that
- *         leaves open which actions come, and says only what has to be on in the end, is searched: up to `actions` to the power of `more` sequences, of those actions that matter to it; with
- *         more than ten such actions and `more` 6 that is over 10 milliseconds. docs/BENCHMARKS.md has the times.
- *   Stack: measured, less than 43 kilobytes (a text of 255 signs that is refused; an accepted call takes less than 21); no heap.
+ *   Time: every call ends; a usual question takes about a microsecond, and no verdict or reach of a rule without variables more than some milliseconds; a board takes less than its tests
+ *         asked one by one. A binder goes over its part once for each value, so binders nested k deep can take the domain to the power of k times as long as their part alone. A finish whose
+ *         run names its labels tries one action a step. A run that leaves open which actions come, and says only what has to be on in the end, is searched: up to `actions` to the power of
+ *         `more` sequences, of those actions that matter to it; with more than ten such actions and `more` 6 that is over 10 milliseconds. docs/BENCHMARKS.md has the times.
+ *   Stack: measured, less than 43 kilobytes (a text of 255 signs that is refused; a call with no refused rule takes less than 21); no heap.
  *   Threads: nothing is kept between calls, so any number of threads may call at once, each with lent memory of its own.
  *
  * A job is a theory and a log. The theory: `fluents` (0 to 32), `actions` (1 to 64), the start state, and a mask table of ten masks an action, need, ban, then twice when,
@@ -62,6 +62,9 @@ enum { WYH_NO_POSITION = 64 };
 
 /* The longest normal form and the longest finishing sequence. */
 enum { WYH_RULE_ROOM = 255, WYH_FINISH_ROOM = 6 };
+
+/* A board has so many tests at most, and a byte for each: no, yes, or so much more than the number of the test's own refusal. */
+enum { WYH_BOARD_ROOM = 64, WYH_BOARD_NO = 0, WYH_BOARD_YES = 1, WYH_BOARD_REFUSED = 16 };
 
 /* The longest answer to a sheet fits in so many bytes. */
 enum { WYH_ANSWER_ROOM = 64 };
@@ -126,6 +129,10 @@ struct wyh_sheet {
  *   wyh_job_state       the state at a position of the log, 0 to log_len, in *state. Refusals 3, 4, 5, 10; *state is then 0.
  *   wyh_job_reach       the positions that a walk leads to from `then` with `now`. Refusals 3 to 8, 13, 10; then the set is empty, the count 0, the earliest WYH_NO_POSITION.
  *   wyh_job_verdict     whether a test is true at (then, now): *yes is 1 or 0. Refusals 3 to 8, 13, 10; *yes is then 0.
+ *   wyh_job_board       the verdicts of up to 64 tests at one (then, now), each test ended by one LF: byte k of out is WYH_BOARD_NO, WYH_BOARD_YES or, where test k is refused as 6, 7, 8
+ *                       or 13, WYH_BOARD_REFUSED and that number; it is what wyh_job_verdict says of that test, and no test changes what another is told. *count is how many they are. Bytes behind
+ *                       them keep what they hold. Refusals of the whole call: 2 (the last LF is missing; no text is no tests), 3 (also more than 64 tests), 4, 5, 10, 12 (room is less than
+ *                       the tests are many); then *count is 0.
  *   wyh_job_possible    whether an action may be taken at a position: its need bits are on and its ban bits off in the state there; *yes is 1 or 0. Refusals 3, 4, 5, 7 (the theory
  *                       lacks the action), 10; *yes is then 0.
  *   wyh_job_next        the actions that may come next: those that the run waits for at the log's end and that are possible there; bit a of *actions is action a. Refusals 3 to 9,
@@ -150,6 +157,7 @@ struct wyh_sheet {
 static inline uint8_t wyh_job_state(const struct wyh_job *job, size_t position, uint32_t *state);
 static inline uint8_t wyh_job_reach(const struct wyh_job *job, const uint8_t *walk, size_t walk_len, size_t then, size_t now, struct wyh_reached *reached);
 static inline uint8_t wyh_job_verdict(const struct wyh_job *job, const uint8_t *test, size_t test_len, size_t then, size_t now, uint8_t *yes);
+static inline uint8_t wyh_job_board(const struct wyh_job *job, const uint8_t *tests, size_t tests_len, size_t then, size_t now, uint8_t *out, size_t room, size_t *count);
 static inline uint8_t wyh_job_possible(const struct wyh_job *job, size_t action, size_t position, uint8_t *yes);
 static inline uint8_t wyh_job_next(const struct wyh_job *job, const uint8_t *run, size_t run_len, uint64_t *actions);
 static inline uint8_t wyh_job_finish(const struct wyh_job *job, const uint8_t *run, size_t run_len, size_t more, uint8_t *out, size_t room, size_t *count);
@@ -159,6 +167,9 @@ static inline uint8_t wyh_job_tally(const struct wyh_job *job, struct wyh_tally 
 static inline uint8_t wyh_job_append(const struct wyh_job *job, struct wyh_tally *tally, size_t action);
 static inline uint8_t wyh_tally_happened(const struct wyh_job *job, const struct wyh_tally *tally, size_t action, uint8_t *yes);
 static inline uint8_t wyh_job_read_sheet(const uint8_t *text, size_t text_len, uint32_t masks[WYH_MASKS_ROOM], uint8_t log[WYH_LOG_ROOM], struct wyh_sheet *sheet);
+
+/* The refusal of one test of a board, by its byte: 0 where it was answered. */
+static inline uint8_t wyh_board_refusal(uint8_t byte);
 
 /* A refusal's sentence, for a message; 0 is "not refused". */
 static inline const char *wyh_refusal_sentence(uint8_t number);
@@ -174,6 +185,9 @@ uint8_t wyh_reach(size_t fluents, size_t actions, size_t domain, uint32_t start,
 
 uint8_t wyh_verdict(size_t fluents, size_t actions, size_t domain, uint32_t start, const uint32_t *masks, size_t masks_len, const uint8_t *log, size_t log_len,
                     const uint8_t *test, size_t test_len, size_t then, size_t now, uint8_t *yes);
+
+uint8_t wyh_board(size_t fluents, size_t actions, size_t domain, uint32_t start, const uint32_t *masks, size_t masks_len, const uint8_t *log, size_t log_len,
+                  const uint8_t *tests, size_t tests_len, size_t then, size_t now, uint8_t *out, size_t room, size_t *count);
 
 uint8_t wyh_possible(size_t fluents, size_t actions, uint32_t start, const uint32_t *masks, size_t masks_len, const uint8_t *log, size_t log_len,
                      size_t action, size_t position, uint8_t *yes);
@@ -236,6 +250,12 @@ static inline uint8_t wyh_job_verdict(const struct wyh_job *job, const uint8_t *
                        wyh_bytes(test, test_len), test_len, then, now, yes);
 }
 
+static inline uint8_t wyh_job_board(const struct wyh_job *job, const uint8_t *tests, size_t tests_len, size_t then, size_t now, uint8_t *out, size_t room, size_t *count) {
+    uint8_t nothing[1] = {0};
+    return wyh_board(job->fluents, job->actions, job->domain, job->start, wyh_masks(job), job->masks_len, wyh_bytes(job->log, job->log_len), job->log_len,
+                     wyh_bytes(tests, tests_len), tests_len, then, now, room == 0 ? nothing : out, room, count);
+}
+
 static inline uint8_t wyh_job_possible(const struct wyh_job *job, size_t action, size_t position, uint8_t *yes) {
     return wyh_possible(job->fluents, job->actions, job->start, wyh_masks(job), job->masks_len, wyh_bytes(job->log, job->log_len), job->log_len,
                         action, position, yes);
@@ -296,12 +316,16 @@ static inline uint8_t wyh_job_read_sheet(const uint8_t *text, size_t text_len, u
     return 0;
 }
 
+static inline uint8_t wyh_board_refusal(uint8_t byte) {
+    return byte < WYH_BOARD_REFUSED ? 0 : (uint8_t)(byte - WYH_BOARD_REFUSED);
+}
+
 static inline const char *wyh_refusal_sentence(uint8_t number) {
     switch (number) {
     case 0: return "not refused";
     case WYH_REFUSED_SHEET_TOO_LONG: return "the sheet is longer than 6,729 bytes";
-    case WYH_REFUSED_BAD_LINE: return "the expected key and '=' do not open the line, or its LF is missing, or bytes follow the last line";
-    case WYH_REFUSED_BAD_NUMBER: return "a count, the domain, the start state, a mask, the version or more is not written as it should be or out of its range, or a mask table has the wrong length";
+    case WYH_REFUSED_BAD_LINE: return "the expected key and '=' do not open the line, or its LF is missing, or bytes follow the last line, or a board lacks its last LF";
+    case WYH_REFUSED_BAD_NUMBER: return "a count, the domain, the start state, a mask, the version or more is not written as it should be or out of its range, or a mask table has the wrong length, or a board has more than 64 tests";
     case WYH_REFUSED_LACKS_FLUENT: return "start or an action's mask names a fluent the theory lacks";
     case WYH_REFUSED_BAD_LOG: return "the log has an odd number of digits, a non-digit, more than 63 actions, or an action the theory lacks";
     case WYH_REFUSED_BAD_RULE: return "a rule is empty, over 255 bytes, not exactly one rule of its kind, or has a sign of variables where there is no domain";
@@ -310,7 +334,7 @@ static inline const char *wyh_refusal_sentence(uint8_t number) {
     case WYH_REFUSED_BACKWARD: return "a backward sign stands in a run outside every '<' walk";
     case WYH_REFUSED_BAD_POSITION: return "then is after now, or now or the position asked is past the log's end";
     case WYH_REFUSED_NO_FINISH: return "no sequence of so many actions finishes the run";
-    case WYH_REFUSED_SHORT_OUTPUT: return "the lent output is shorter than the normal form, or than more";
+    case WYH_REFUSED_SHORT_OUTPUT: return "the lent output is shorter than the normal form, or than more, or than a board has tests";
     case WYH_REFUSED_UNBOUND: return "a variable stands in a rule outside every binder of its name";
     default: return "no refusal has this number";
     }

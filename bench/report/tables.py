@@ -89,7 +89,7 @@ def bound():
 
 def stack():
     taken = {(word, call): (int(size), rule) for _, word, call, size, rule in lines("stack.tsv")}
-    calls = sorted({call.split(",")[0] for _, call in taken}, key=["verdict", "reach", "finish", "read_rule", "normal", "answer"].index)
+    calls = sorted({call.split(",")[0] for _, call in taken}, key=["verdict", "board", "reach", "finish", "read_rule", "normal", "answer"].index)
     rows = []
     for call in calls:
         accepted, refused = taken["accepted", call], taken["refused", call]
@@ -105,6 +105,12 @@ def tally():
     rows = [(name, *map(float, times)) for name, *times in lines("tally.tsv")]
     head = ["Job", "Append, µs", "Quick yes, µs", "Made afresh, µs", "Verdict, µs", "Verdict / append and quick yes"]
     return table(head, [[n, figures(a), figures(q), figures(f), figures(v), ratio(v, a + q)] for n, a, q, f, v in rows])
+
+
+def board():
+    rows = [(name, float(one), float(single)) for name, one, single in lines("board.tsv")]
+    head = ["Job", "One board of 64, µs", "64 single calls, µs", "Board / single calls"]
+    return table(head, [[n, figures(b), figures(s), ratio(b, s)] for n, b, s in rows])
 
 
 def machine():
@@ -124,6 +130,7 @@ TABLES = {
     "factory": factory,
     "stack": stack,
     "tally": tally,
+    "board": board,
     "machine": machine,
     "goals": lambda: table(["Goal", "Measured", "Where it is missed"], goals()),
 }

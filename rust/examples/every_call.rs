@@ -31,6 +31,17 @@ fn verdict(job: &Job, test: &str) {
     println!("  {}", if answer == Ok(true) { "yes" } else { "no" });
 }
 
+/// The bytes that are told, and one behind them that is not touched.
+fn board(job: &Job, tests: &str, room: usize) {
+    let mut out = [99; wyndhopper::BOARD_ROOM + 1];
+    let end = job.log().len();
+    let answer = job.board(tests.as_bytes(), end, end, &mut out[..room]);
+    told("board", &answer);
+    let count = answer.unwrap_or(0);
+    let bytes: String = out[..=count].iter().map(|b| format!(" {b}")).collect();
+    println!("  {count} tests:{bytes}");
+}
+
 fn possible(job: &Job, action: usize, position: usize) {
     let answer = job.possible(action, position);
     told("possible", &answer);
@@ -97,7 +108,9 @@ fn variables(job: &Job) {
     reach(&some, "pvb01v", 0);
     reach(job, "pvb00v", 0);
     verdict(&some.with_domain(2), "evg00v");
+    board(&some.with_domain(2), "evg00v\ng00v\nevg01v\n", wyndhopper::BOARD_ROOM);
     verdict(&some.with_domain(17), "1");
+    board(&some.with_domain(17), "1\n", wyndhopper::BOARD_ROOM);
 }
 
 /// Effects that depend: 00 puts label 01 when the carton, 00, is open; 01 closes it; 02 opens it. The states, what is left to do, and a table of the wrong length.
@@ -143,6 +156,7 @@ fn nothing(job: &Job) {
     told("no theory", &Job::new(0, 0, &[]).state(0));
     told("no walk", &job.reach(b"", 0, 0));
     told("no test", &job.verdict(b"", 0, 0));
+    told("no tests and no output", &job.board(b"", 0, 0, &mut []));
     told("no run", &job.next(b""));
     told("no tally", &Tally::of(&Job::new(0, 0, &[])));
     told("no sheet", &Sheet::read(b"", &mut SheetRoom::new()).map(|s| s.more).map_err(|fault| fault.refusal));
@@ -175,6 +189,9 @@ fn main() {
     reach(&job, "a03", 0);
     verdict(&job, "<-;a00*n!<;*na011");
     verdict(&job, "");
+    board(&job, "1\n!1\n\nf02\n!!!!!!!!!!!!!!!!!!!!!!!!1\n<-;a00*n!<;*na011\n", wyndhopper::BOARD_ROOM);
+    board(&job, "1\nf00", wyndhopper::BOARD_ROOM);
+    board(&job, "1\nf00\n", 1);
     possible(&job, 1, 4);
     possible(&job, 1, 0);
     possible(&job, 3, 0);

@@ -31,6 +31,26 @@ pub const fn plain_row(need: u32, ban: u32, put: u32, drop: u32) -> [u32; ROW_MA
     [need, ban, 0, 0, put, drop, 0, 0, 0, 0]
 }
 
+/// How many tests a board has at most, and a byte for each.
+pub const BOARD_ROOM: usize = 64;
+
+/// A byte of a board that is this or more is so much more than the number of its test's refusal.
+const BOARD_REFUSED: u8 = 16;
+
+/// What a byte of a board says of its test: whether it is true, or its own refusal. None for a byte that no board has.
+///
+/// ```
+/// use wyndhopper::{board_verdict, Refusal};
+/// assert_eq!([0, 1, 22, 99].map(board_verdict), [Some(Ok(false)), Some(Ok(true)), Some(Err(Refusal::BadRule)), None]);
+/// ```
+pub fn board_verdict(byte: u8) -> Option<Result<bool, Refusal>> {
+    match byte {
+        0 => Some(Ok(false)),
+        1 => Some(Ok(true)),
+        _ => Refusal::from_number(byte.checked_sub(BOARD_REFUSED)?).map(Err),
+    }
+}
+
 /// A theory with a job's log. It is made by [`Job::new`], so that what later versions add breaks no program.
 ///
 /// The mask table has ten masks an action: need, ban, then twice when, unless, put, drop; [`plain_row`] makes the row of an action whose effects do not depend. A clause acts if its when bits are on
@@ -191,6 +211,32 @@ impl<'a> Job<'a> {
             )
         };
         answered(refused, yes == 1)
+    }
+
+    /// The verdicts of up to [`BOARD_ROOM`] tests at one (then, now), each test ended by one LF: a byte for each at the front of `out` ([`board_verdict`] says what it says), their number returned.
+    /// A byte is what [`Job::verdict`] says of its test; no test changes what another is told.
+    pub fn board(&self, tests: &[u8], then: usize, now: usize, out: &mut [u8]) -> Result<usize, Refusal> {
+        let mut count = 0;
+        let refused = unsafe {
+            raw::wyh_board(
+                self.fluents,
+                self.actions,
+                self.domain,
+                self.start,
+                self.masks.as_ptr(),
+                self.masks.len(),
+                self.log.as_ptr(),
+                self.log.len(),
+                tests.as_ptr(),
+                tests.len(),
+                then,
+                now,
+                out.as_mut_ptr(),
+                out.len(),
+                &mut count,
+            )
+        };
+        answered(refused, count)
     }
 
     /// Whether an action may be taken at a position: its need bits are on and its ban bits off in the state there.

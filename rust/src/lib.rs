@@ -1,4 +1,4 @@
-//! Safe calls of the proved library: the state at a position, where a walk leads, the verdict of a test, what may come next, a rule's normal form, the first finishing
+//! Safe calls of the proved library: the state at a position, where a walk leads, the verdict of a test or of a whole board of them, what may come next, a rule's normal form, the first finishing
 //! sequence, a running tally beside the log, and a whole sheet, read or answered.
 //!
 //! Every call takes every input; what cannot be answered is refused ([`Refusal`]; docs/REFUSALS.md says what to look for). Nothing is kept between calls.
@@ -12,6 +12,9 @@
 //! let job = Job::new(2, 2, masks.as_flattened()).with_log(&[0]);
 //! assert_eq!(job.state(1), Ok(1));
 //! assert_eq!(job.verdict(b"f00", 1, 1), Ok(true));
+//! let mut board = [9; 4];
+//! assert_eq!(job.board(b"f00\nf01\nf\n", 1, 1, &mut board), Ok(3));
+//! assert_eq!(board, [1, 0, 16 + 6, 9]);
 //! assert!(job.reach(b"*n", 0, 1).unwrap().holds(1));
 //! assert_eq!(job.possible(1, 1), Ok(true));
 //! assert_eq!(job.next(b";a00a01"), Ok(0b10));
@@ -31,7 +34,7 @@ mod refusal;
 mod sheet;
 mod tally;
 
-pub use job::{plain_row, Job, Reached, FINISH_ROOM, NO_POSITION, ROW_MASKS, RULE_ROOM, SET_WORDS};
+pub use job::{board_verdict, plain_row, Job, Reached, BOARD_ROOM, FINISH_ROOM, NO_POSITION, ROW_MASKS, RULE_ROOM, SET_WORDS};
 pub use refusal::Refusal;
 pub use sheet::{Fault, Sheet, SheetRoom, LOG_ROOM, MASKS_ROOM};
 pub use tally::{Tally, TALLY_ACTIONS};

@@ -48,6 +48,24 @@ extern "C" {
         yes: *mut u8,
     ) -> u8;
 
+    pub fn wyh_board(
+        fluents: usize,
+        actions: usize,
+        domain: usize,
+        start: u32,
+        masks: *const u32,
+        masks_len: usize,
+        log: *const u8,
+        log_len: usize,
+        tests: *const u8,
+        tests_len: usize,
+        then: usize,
+        now: usize,
+        out: *mut u8,
+        room: usize,
+        count: *mut usize,
+    ) -> u8;
+
     pub fn wyh_possible(
         fluents: usize,
         actions: usize,

@@ -54,8 +54,8 @@ impl fmt::Display for Refusal {
     fn fmt(&self, f: &mut fmt::Formatter<'_>) -> fmt::Result {
         f.write_str(match self {
             Refusal::SheetTooLong => "the sheet is longer than 6,729 bytes",
-            Refusal::BadLine => "the expected key and '=' do not open the line, or its LF is missing, or bytes follow the last line",
-            Refusal::BadNumber => "a count, the domain, the start state, a mask, the version or more is not written as it should be or out of its range, or a mask table has the wrong length",
+            Refusal::BadLine => "the expected key and '=' do not open the line, or its LF is missing, or bytes follow the last line, or a board lacks its last LF",
+            Refusal::BadNumber => "a count, the domain, the start state, a mask, the version or more is not written as it should be or out of its range, or a mask table has the wrong length, or a board has more than 64 tests",
             Refusal::LacksFluent => "start or an action's mask names a fluent the theory lacks",
             Refusal::BadLog => "the log has an odd number of digits, a non-digit, more than 63 actions, or an action the theory lacks",
             Refusal::BadRule => "a rule is empty, over 255 bytes, not exactly one rule of its kind, or has a sign of variables where there is no domain",
@@ -64,7 +64,7 @@ impl fmt::Display for Refusal {
             Refusal::Backward => "a backward sign stands in a run outside every '<' walk",
             Refusal::BadPosition => "then is after now, or now or the position asked is past the log's end",
             Refusal::NoFinish => "no sequence of so many actions finishes the run",
-            Refusal::ShortOutput => "the lent output is shorter than the normal form, or than more",
+            Refusal::ShortOutput => "the lent output is shorter than the normal form, or than more, or than a board has tests",
             Refusal::Unbound => "a variable stands in a rule outside every binder of its name",
         })
     }

@@ -176,6 +176,11 @@ fn constants_and_version_are_the_same() {
     assert_eq!(number("WYH_RULE_ROOM"), wyndhopper::RULE_ROOM);
     assert_eq!(number("WYH_FINISH_ROOM"), wyndhopper::FINISH_ROOM);
     assert_eq!(number("WYH_ROW_MASKS"), wyndhopper::ROW_MASKS);
+    assert_eq!(number("WYH_BOARD_ROOM"), wyndhopper::BOARD_ROOM);
+    assert_eq!(between(&file("rust/src/job.rs"), "BOARD_REFUSED: u8 = ", ";"), number("WYH_BOARD_REFUSED").to_string());
+    for (name, yes) in [("WYH_BOARD_NO", false), ("WYH_BOARD_YES", true)] {
+        assert_eq!(wyndhopper::board_verdict(number(name) as u8), Some(Ok(yes)));
+    }
     assert_eq!(number("WYH_MASKS_ROOM"), wyndhopper::MASKS_ROOM);
     assert_eq!(number("WYH_LOG_ROOM"), wyndhopper::LOG_ROOM);
     assert_eq!(number("WYH_TALLY_ACTIONS"), wyndhopper::TALLY_ACTIONS);

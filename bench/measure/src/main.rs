@@ -1,6 +1,7 @@
-//! Measures the proved library: `measure compare`, `measure growth`, `measure work`, `measure search`, `measure binders`, `measure stack`, `measure tally`, `measure interpreter FOLDER`. Each prints lines of columns with tabs
+//! Measures the proved library: `measure compare`, `measure growth`, `measure work`, `measure search`, `measure binders`, `measure stack`, `measure tally`, `measure board`, `measure interpreter FOLDER`. Each prints lines of columns with tabs
 //! between, for the scripts beside it.
 mod binders;
+mod board;
 mod case;
 mod clock;
 mod compare;
@@ -28,9 +29,10 @@ fn main() {
         ["binders"] => binders::run(),
         ["stack"] => stack::run(),
         ["tally"] => tally::run(),
+        ["board"] => board::run(),
         ["interpreter", folder] => interpreter::run(folder.as_ref()),
         _ => {
-            eprintln!("measure compare | growth | work | search | binders | stack | tally | interpreter FOLDER");
+            eprintln!("measure compare | growth | work | search | binders | stack | tally | board | interpreter FOLDER");
             std::process::exit(2);
         }
     }

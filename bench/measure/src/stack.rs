@@ -63,6 +63,16 @@ fn texts(deepest: &mut [Deepest; 2], text: &str, kind: wyndhopper::Kind) {
     });
 }
 
+/// A board of one test: if the test is refused, the call is not.
+fn board(deepest: &mut Deepest, test: &str) {
+    let (theory, text) = (theory(), format!("{test}\n"));
+    let job = wyndhopper::Job::new(theory.fluents, theory.actions(), &theory.masks).with_log(&[1, 1]);
+    let mut out = [0; 1];
+    deepest.try_call(test, &mut || {
+        black_box(job.board(black_box(text.as_bytes()), 2, 2, &mut out)).unwrap();
+    });
+}
+
 fn whole(deepest: &mut Deepest, ask: &str, run: &str) {
     let text = sheet(&theory(), &[1, 1], ask, run, 6);
     let mut out = [0; wyndhopper::ANSWER_ROOM];
@@ -77,6 +87,7 @@ fn search(accepted: bool) {
     let engines: [(&str, fn(&Case) -> crate::case::Answer); 3] = [("", ours), (", plain", plain), (", quick", quick)];
     let mut asked: [[Deepest; 3]; 3] = Default::default();
     let mut read: [Deepest; 2] = Default::default();
+    let mut told = Deepest::default();
     let mut answered = Deepest::default();
     for way in Way::all(3) {
         let (test, walk, run) = rules(&way, accepted);
@@ -87,6 +98,7 @@ fn search(accepted: bool) {
         }
         texts(&mut read, &test, wyndhopper::Kind::Test);
         texts(&mut read, &walk, wyndhopper::Kind::Walk);
+        board(&mut told, &test);
         whole(&mut answered, &test, &run);
     }
     for (k, (of, _)) in engines.iter().enumerate() {
@@ -94,7 +106,7 @@ fn search(accepted: bool) {
             println!("stack\t{word}\t{call}{of}\t{}\t{}", d.0, d.1);
         }
     }
-    for (call, d) in ["read_rule", "normal", "answer"].iter().zip([&read[0], &read[1], &answered]) {
+    for (call, d) in ["board", "read_rule", "normal", "answer"].iter().zip([&told, &read[0], &read[1], &answered]) {
         println!("stack\t{word}\t{call}\t{}\t{}", d.0, d.1);
     }
 }

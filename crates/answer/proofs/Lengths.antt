@@ -7,8 +7,8 @@ use Prim.Native.Nat.{ℕ, _≤_, _<_}
 use native.Mathlib.Omega.{arith}
 use lib.ListN.{length, length-append}
 use Rattle.refusal.specs.Number.{numberOf}
+use Rattle.refusal.proofs.Numbers.{number-low}
 use Rattle.refusal.specs.declared.Refusal.{Refusal}
-use Rattle.refusal.specs.declared.Refusal.the-variants.{SheetTooLong, BadLine, BadNumber, LacksFluent, BadLog, BadRule, LacksName, TooDeep, BackwardJob, BadPosition, NoFinish, ShortOutput, Unbound}
 use Rattle.meaning.specs.Limits.{moreLimit}
 use Rattle.spelling.specs.Numeral.{hex8}
 use Rattle.spelling.proofs.Numeral.{length-numeral}
@@ -44,16 +44,4 @@ refusal-length number place few low = simp length-append (omega (arith, length-d
 
 -- a refusal's number has three digits at most
 pub number-small : (r : Refusal) → numberOf r < 1000
-number-small SheetTooLong = omega arith
-number-small BadLine = omega arith
-number-small BadNumber = omega arith
-number-small LacksFluent = omega arith
-number-small BadLog = omega arith
-number-small BadRule = omega arith
-number-small LacksName = omega arith
-number-small TooDeep = omega arith
-number-small BackwardJob = omega arith
-number-small BadPosition = omega arith
-number-small NoFinish = omega arith
-number-small ShortOutput = omega arith
-number-small Unbound = omega arith
+number-small r = omega (arith, number-low r)

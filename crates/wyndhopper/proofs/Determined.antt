@@ -26,6 +26,8 @@ use Rattle.tally.specs.Calls.{Remade, Appended, HappenedAnswered}
 use Rattle.tally.specs.declared.Tally.{Tally}
 use Rattle.tally.proofs.Determined.{remade-determined, append-determined}
 use Rattle.normal.proofs.Outcomes.{normal-determined}
+use Rattle.board.specs.Answer.{BoardAnswered}
+use Rattle.board.proofs.Determined.{same-board}
 use Rattle.finish.specs.Answer.{Finished, FinishAnswered}
 use Rattle.finish.specs.Next.{MayCome, NextAnswered}
 use Rattle.ask.specs.Reach.{ReachAnswered}
@@ -93,6 +95,15 @@ module _ (s : Subject) where
       answered-determined a b
       (λ n p q. (n, p ∙ sym q))
       (λ n p q. (n, one-verdict (p .judged) (subst (λ (t : Test). YesOrNo (Holds (worldOf s) t then now) (y .verdict)) (one-test (q .spells) (p .spells)) (q .judged)))))
+
+  pub wyh-board-determined : (tests : List ℕ) (then now : ℕ) (before : List ℕ) {after after′ : List ℕ} {number number′ count count′ : ℕ}
+      → BoardAnswered s tests then now before number count after
+      → BoardAnswered s tests then now before number′ count′ after′
+      → (number ≡ number′) × (count ≡ count′) × (after ≡ after′)
+  wyh-board-determined tests then now before x y =
+      answered-determined x y
+      (λ n p q. (n, p .0 ∙ sym (q .0), p .1 ∙ sym (q .1)))
+      (λ n p q. let (many, out) = same-board s then now p q in (n, many, out))
 
   pub wyh-finish-determined : (job : List ℕ) (more : ℕ) (before : List ℕ) {after after′ : List ℕ} {number number′ count count′ : ℕ}
       → FinishAnswered s job more before number count after

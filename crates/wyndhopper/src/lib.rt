@@ -7,6 +7,7 @@ ghost use Rattle.theory.specs.Possible.{PossibleAnswered};
 ghost use Rattle.tally.specs.Calls.{Remade, Appended, HappenedAnswered};
 ghost use Rattle.ask.specs.Reach.{ReachAnswered};
 ghost use Rattle.ask.specs.Verdict.{VerdictAnswered};
+ghost use Rattle.board.specs.Answer.{BoardAnswered};
 ghost use Rattle.finish.specs.Answer.{FinishAnswered};
 ghost use Rattle.finish.specs.Next.{NextAnswered};
 ghost use Rattle.answer.specs.Written.{AnswerWritten};
@@ -17,6 +18,7 @@ mod kinds; // kinds.rt: a kind as a number
 use answer::ANSWER_ROOM;
 use ask::ReachAnswer;
 use ask::VerdictAnswer;
+use board::BoardAnswer;
 use finish::FinishAnswer;
 use finish::NextAnswer;
 use sheet::LOG_ROOM;
@@ -177,6 +179,41 @@ pub extern "C" fn wyh_verdict(
         }
         VerdictAnswer::No => {
             *yes = 0;
+            0
+        }
+    }
+}
+
+// Whether each test of the text is true at `then`, with this now: a byte each, at the front of the output.
+#[no_mangle]
+pub extern "C" fn wyh_board(
+    fluents: usize,
+    actions: usize,
+    domain: usize,
+    start: u32,
+    masks: &[u32],
+    log: &[u8],
+    tests: &[u8],
+    then: usize,
+    now: usize,
+    out: &mut [u8],
+    count: &mut usize,
+) -> u8
+    ensures { λ r. ⌜ BoardAnswered (asked fluents actions domain start (masks .entry .now) (log .entry .now)) (tests .entry .now) then now (out .entry .now) r (count .exit .now) (out .exit .now) ⌝ }
+{
+    let counts = Counts {
+        fluents,
+        actions,
+        domain,
+    };
+    let s = Setting { counts, start };
+    match board::board(s, masks, log, tests, then, now, out) {
+        BoardAnswer::Refused(why) => {
+            *count = 0;
+            refusal::number(why)
+        }
+        BoardAnswer::Told(many) => {
+            *count = many;
             0
         }
     }

@@ -113,6 +113,31 @@ pub fn finish(i: &Input, run: &[u8], more: usize, room: usize) -> (u8, usize, Ve
     (refused, count, lent.bytes)
 }
 
+pub fn board(i: &Input, tests: &[u8], then: usize, now: usize, room: usize) -> (u8, usize, Vec<u8>) {
+    let mut lent = Lent::new(room);
+    let mut count = usize::from_ne_bytes([FILLED; 8]);
+    let refused = unsafe {
+        raw::wyh_board(
+            i.fluents,
+            i.actions,
+            i.domain,
+            i.start,
+            i.masks.as_ptr(),
+            i.masks.len(),
+            i.log.as_ptr(),
+            i.log.len(),
+            tests.as_ptr(),
+            tests.len(),
+            then,
+            now,
+            lent.out(),
+            lent.room,
+            &mut count,
+        )
+    };
+    (refused, count, lent.bytes)
+}
+
 pub fn possible(i: &Input, action: usize, position: usize) -> (u8, u8) {
     let mut yes = FILLED;
     let refused = unsafe {

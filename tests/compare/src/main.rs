@@ -1,5 +1,6 @@
 //! Compares every call of the proved library with the second implementation, on seeded inputs: answers, refusals, every slot, and every lent byte before and after, through the
 //! exported functions; and the safe Rust crate's answers; and a rule with variables with the same rule written out. `compare [SEED [COUNT]]`. It ends with a line 'N inputs compared, 0 differ' or shows the first input that differs.
+mod boards;
 mod calls;
 mod make;
 mod tallies;
@@ -31,7 +32,7 @@ impl Tally {
     }
 
     fn show(&self) {
-        for call in ["state", "reach", "verdict", "possible", "next", "tally", "append", "happened", "finish", "finish with actions", "rules with variables", "written out", "read_rule", "normal", "read_sheet", "answer"] {
+        for call in ["state", "reach", "verdict", "board", "first refused test of a board", "possible", "next", "tally", "append", "happened", "finish", "finish with actions", "rules with variables", "written out", "read_rule", "normal", "read_sheet", "answer"] {
             let of = self.0.iter().filter(|((c, _), _)| *c == call);
             let counts: Vec<String> = of.map(|((_, n), k)| if *n == 0 { format!("answered {k}") } else { format!("refused {n}: {k}") }).collect();
             println!("{call}: {}", counts.join(", "));
@@ -230,6 +231,7 @@ fn main() {
         let mut d = Dice::new(seed.wrapping_mul(1_000_003).wrapping_add(k));
         let i = make::input(&mut d);
         questions(&mut d, &i, &mut tally);
+        boards::boards(&mut d, &i, &mut tally);
         onward(&mut d, &i, &mut tally);
         tallies::tallies(&mut d, &i, &mut tally);
         texts(&mut d, &i, &mut tally);

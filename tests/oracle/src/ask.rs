@@ -132,7 +132,7 @@ pub struct Reached {
     pub earliest: u32,
 }
 
-fn times(then: usize, now: usize, log: &[u8]) -> Result<(), Refusal> {
+pub(crate) fn times(then: usize, now: usize, log: &[u8]) -> Result<(), Refusal> {
     if then > now || now > log.len() {
         Err(10)
     } else {

@@ -2,6 +2,7 @@
 //! trying every sequence in order. It shares no code and no idea of speed with the proved library, so that the two can be compared.
 
 pub mod ask;
+pub mod board;
 pub mod desk;
 pub mod finish;
 pub mod next;

@@ -1,0 +1,5 @@
+pub mod Falling
+pub mod Telling
+pub mod Checking
+pub mod Determined
+pub mod Consequences

@@ -1,0 +1,4 @@
+pub mod Tests
+pub mod Rows
+pub mod Answer
+pub mod Told
