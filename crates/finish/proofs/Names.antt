@@ -10,7 +10,7 @@ use Rattle.meaning.specs.Rule.{ofTest, ofWalk, walkText, testText, walkNames, t
 use Rattle.grammar.specs.Standing.{Stands}
 use Rattle.grammar.proofs.Spread.{Spread, spread, within, act-at, undo-at, next-at, prev-at, seq-at, alt-at, star-at, check-at, conv-at}
 use Rattle.grammar.proofs.Spread.{always-at, fluent-at, neg-at, both-at, diamond-at, sum-act-at, sum-undo-at, pick-at, sum-fluent-at, exists-at}
-use Rattle.finish.specs.Worth.{Behind, Sum}
+use Rattle.standins.specs.Worth.{Behind, Sum}
 
 module _ (bytes : List ℕ) (f g : Name → ℕ) (acts : (at n : ℕ) → at < length bytes → Behind bytes 97 114 at n → f (plain n) ≡ 0)
     (shows : (at n : ℕ) → at < length bytes → Behind bytes 102 102 at n → g (plain n) ≡ 0) (unsummed : (at : ℕ) → at < length bytes → Sum (getD bytes at 0) → ⊥) where

@@ -4,14 +4,13 @@ use mathlib.Core.Path.{_≡_, refl, sym, ap, subst, subst⁻¹, _∙_}
 use mathlib.Core.Logic.{_⊎_, inl, inr, _↔_}
 use mathlib.Core.Bool.{Bool, true, false, _&&_, false≢true}
 use mathlib.Core.List.{List, [], _∷_, _++_}
-use Prim.Native.Nat.{ℕ, suc, _+_, _/_, _%_, _^_, _≤_, _<_}
+use Prim.Native.Nat.{ℕ, suc, _+_, _≤_, _<_}
 use native.Mathlib.Decide.{ℕ-discrete}
 use native.Mathlib.Numerals.{add-one}
 use native.Mathlib.Omega.{arith}
 use lib.Bits.{bitAnd}
 use lib.ListN.{length, getD, take, drop, set, length-set}
 use lib.Seq.{drop-cons, getD-set-same, getD-take, length-take-le, take-suc-set, take-set-le, take-take}
-use borrow.Author.Tests.{eq-eqb, ne-eqb}
 use Rattle.laws.specs.Bit.{on}
 use Rattle.laws.proofs.Truth.{and-iff}
 use Rattle.laws.proofs.Bitwise.{on-and}
@@ -33,19 +32,10 @@ use Rattle.runs.specs.Found.{Tabled}
 use Rattle.runs.proofs.Bound.{bears-none}
 use Rattle.finish.specs.Lengths.{Guided}
 use Rattle.finish.specs.Found.{MayBegin, NextTold, OneLength, LengthTold}
-use Rattle.finish.specs.Worth.{Worth}
+use Rattle.finish.specs.Spared.{Spared}
 use Rattle.finish.proofs.Sound.{logged-more}
 use Rattle.finish.proofs.LeftOut.{allows-grown, next-tries}
 use Rattle.finish.proofs.Lengths.{first-empty, none-empty, NoneAfter, none-after, first-more, none-more}
-
--- the test of a bit in the code
-pub bit-on : (asked a : ℕ) → asked / 2 ^ a % 2 ≡ 1 → on asked a ≡ true
-unfolding on
-bit-on asked a h = eq-eqb (asked / 2 ^ a % 2) 1 h
-
-pub bit-off : (asked a : ℕ) → (asked / 2 ^ a % 2 ≡ 1 → ⊥) → on asked a ≡ false
-unfolding on
-bit-off asked a h = ne-eqb (asked / 2 ^ a % 2) 1 h
 
 -- an action that is asked for and worth trying, or not both
 pub asked-on : (asked worthy a : ℕ) → on (bitAnd asked worthy) a ≡ true → on asked a ≡ true
@@ -108,7 +98,7 @@ module _ (s : Setting) (masks job : List ℕ) where
       (subst (λ (i : ℕ). MayBegin (allows follow i) (At log) x asked) same (told .each x j))
 
   -- an action that is left out: nothing finishes behind it, or a smaller one, gone over already, stands in for it
-  pub passed-out : (log : List ℕ) (k a asked worthy : ℕ) → Tried log k asked → Worth s masks job worthy → a < s .counts .actions
+  pub passed-out : (log : List ℕ) (k a asked worthy : ℕ) → Tried log k asked → Spared s masks job worthy → a < s .counts .actions
       → on (bitAnd asked worthy) a ≡ false → Passed log k a → Passed log k (a + 1)
   passed-out log k a asked worthy told worth known off passed x j =
       passed-more log k a x (passed x j) (λ rest e c. elim (neither-on asked worthy a off) [

@@ -2,7 +2,7 @@ pub mod Rows
 pub mod Answer
 pub mod Search
 pub mod Sound
-pub mod Worth
+pub mod Spared
 pub mod Lengths
 pub mod Next
 pub mod Found

@@ -2,21 +2,17 @@
 use mathlib.Core.Path.{_≡_}
 use mathlib.Core.Bool.{false}
 use mathlib.Core.List.{List}
-use Prim.Native.Nat.{ℕ, _+_, _*_, _≤_, _<_}
+use Prim.Native.Nat.{ℕ, _+_, _≤_, _<_}
 use lib.ListN.{length, getD, take}
-use Rattle.meaning.specs.Limits.{actionLimit, logLimit, places, textLimit, moreLimit}
+use Rattle.meaning.specs.Limits.{logLimit, places, textLimit, moreLimit}
 use Rattle.meaning.specs.Rule.{Walk, ofWalk, backward}
-use Rattle.meaning.specs.Theory.{World, run, stride}
+use Rattle.meaning.specs.Theory.{World, run}
 use Rattle.tables.specs.Tables.{Describes}
 use Rattle.grammar.specs.Standing.{Stands}
 use Rattle.runs.specs.Found.{WalkHere}
+use Rattle.standins.specs.Worth.{Table}
 
--- the table is one of so many actions
-pub record Table (actions : ℕ) (masks : List ℕ) : Type 0 where
-  pub few : actions ≤ actionLimit
-  pub whole : length masks ≡ stride * actions
-
--- and the log is one of this theory
+-- the table is one of so many actions, and the log is one of this theory
 pub record Logged (actions : ℕ) (masks log : List ℕ) : Type 0 where
   pub table : Table actions masks
   pub short : length log ≤ logLimit

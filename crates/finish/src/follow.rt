@@ -9,7 +9,7 @@ ghost use Rattle.laws.specs.Bit.{on};
 ghost use Rattle.meaning.specs.Limits.{fluentLimit};
 ghost use Rattle.meaning.specs.Lengths.{Longer, Reaching};
 ghost use Rattle.theory.specs.Subject.{subjectOf, tableMasks};
-ghost use Rattle.finish.specs.Sound.{Table};
+ghost use Rattle.standins.specs.Worth.{Table};
 ghost use Rattle.finish.specs.Lengths.{BeforeHere, BeforeTold, FillHere, FollowTold};
 use crate::truth::may_be;
 use crate::truth::second;

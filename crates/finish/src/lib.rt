@@ -11,7 +11,6 @@ ghost use Rattle.finish.specs.Found.{SoughtTold};
 mod checks; // checks.rt: which refusal the call is given before it searches
 mod follow; // follow.rt: how long a job can still be behind each step sign
 mod truth; // truth.rt: which tests can still come true
-mod standins; // standins.rt: the actions that need not be tried
 mod search; // search.rt: the search itself
 mod tries; // tries.rt: the actions to try next
 

@@ -8,13 +8,13 @@ ghost use Rattle.theory.specs.Subject.{subjectOf, worldOf};
 ghost use Rattle.finish.specs.Sound.{Ready, Shown};
 ghost use Rattle.finish.specs.Lengths.{Guided};
 ghost use Rattle.finish.specs.Found.{LengthTold, RowsKept, FinishTold};
-ghost use Rattle.finish.specs.Worth.{Worth};
+ghost use Rattle.finish.specs.Spared.{Spared};
 use crate::follow::fill;
-use crate::standins::worth;
 use crate::tries::tries;
 use ask::job;
 use grammar::ends::ENDS_ROOM;
 use positions::PositionSet;
+use standins::worth;
 use tables::ROWS;
 use tables::toggle;
 use tables::transpose;
@@ -42,7 +42,7 @@ fn complete(
     state: u32,
     worthy: u64,
 ) -> bool
-    requires { ⌜ Ready (s .counts .actions) (now masks) (now job) (now ends) (now trail) n left × Guided (subjectOf s (now masks) (take n (now trail))) (now job) (now follow) left × Worth s (now masks) (now job) worthy × Shown (worldOf (subjectOf s (now masks) (take n (now trail)))) (now rows) state ⌝ }
+    requires { ⌜ Ready (s .counts .actions) (now masks) (now job) (now ends) (now trail) n left × Guided (subjectOf s (now masks) (take n (now trail))) (now job) (now follow) left × Spared s (now masks) (now job) worthy × Shown (worldOf (subjectOf s (now masks) (take n (now trail)))) (now rows) state ⌝ }
     ensures { λ r. ⌜ LengthTold s (now (masks .entry)) (now (job .entry)) (now (trail .entry)) n left (now (trail .exit)) r × RowsKept (worldOf (subjectOf s (now (masks .entry)) (take n (now (trail .entry))))) r (now (rows .exit)) ⌝ }
 {
     let counts = s.counts;
@@ -115,7 +115,7 @@ pub(crate) fn first(
     if most == 0 {
         return Found::Nothing;
     }
-    let worthy = worth(s, masks, job);
+    let worthy = worth(counts.actions, masks, job);
     let mut follow = [0u8; ENDS_ROOM];
     fill(s, masks, job, ends, &trail[..n], &mut follow);
     let state = log::state_at(s, masks, &trail[..n], n);

@@ -1,7 +1,8 @@
 // Which actions may come next: one answer, a word with bit a for action a.
 ghost use Rattle.meaning.specs.Lengths.{allows};
 ghost use Rattle.theory.specs.Subject.{subjectOf, worldOf};
-ghost use Rattle.finish.specs.Sound.{Table, Node, Shown};
+ghost use Rattle.standins.specs.Worth.{Table};
+ghost use Rattle.finish.specs.Sound.{Node, Shown};
 ghost use Rattle.finish.specs.Found.{Doable, NextTold};
 use ask::job;
 use grammar::ends::ENDS_ROOM;

@@ -16,7 +16,8 @@ use Rattle.theory.proofs.step.act.Reads as act-reads
 use Rattle.tables.proofs.toggle.Reads as toggle-reads
 use Rattle.finish.specs.Search.{stands}
 use Rattle.meaning.specs.Theory.{Possible}
-use Rattle.finish.proofs.Trail.{Passed, tried, guided-more, bit-on, bit-off, asked-on, shown-more, shown-less, leaf-told, passed-out, passed-tried, kept-tried, tried-told, none-told, place, ready-more}
+use Rattle.standins.proofs.Words.{bit-on, bit-off}
+use Rattle.finish.proofs.Trail.{Passed, tried, guided-more, asked-on, shown-more, shown-less, leaf-told, passed-out, passed-tried, kept-tried, tried-told, none-told, place, ready-more}
 use Rattle.finish.proofs.search.complete.Reads as reads
 use Rattle.finish.proofs.search.complete.Kinds as kinds
 use Rattle.finish.proofs.search.+complete.Lts-complete as lts

@@ -12,6 +12,7 @@ use Rattle.theory.specs.Subject.{Readable, subjectOf, worldOf}
 use Rattle.tables.specs.Tables.{Describes}
 use Rattle.finish.specs.Found.{LengthTold}
 use Rattle.finish.proofs.Sound.{readable}
+use Rattle.finish.proofs.Stood.{worth-spared}
 use Rattle.finish.proofs.Trail.{leaf-told}
 use Rattle.finish.proofs.Shorter.{Fewer, fewer-none, fewer-more, at-told, nothing-told, ready-again, guided-again, shown-again}
 use Rattle.finish.proofs.search.first.Statement.{statement}
@@ -119,7 +120,7 @@ complete-requires c κs =
       ready-again (a .s .counts .actions) (now (a .masks)) (now (a .job)) (now (a .ends)) (now (a .trail)) (k .trail) (a .n) (k .k) (s .pre .0) (k .inv .2) (k .inv .3)
           (omega (arith, longest, within, s .pre .0 .fits)),
       guided-again (a .s) (now (a .masks)) (now (a .job)) (now (a .trail)) (k .trail) _ (a .n) (k .k) (omega (arith, longest, within, s .pre .2)) (k .inv .3) (c .before .before .before .before .before .before .before .before .fill .ensures),
-      c .before .before .before .before .before .before .before .before .before .before .before .worth .ensures,
+      worth-spared (a .s) (now (a .masks)) (now (a .job)) _ (s .pre .0 .node .logged .table) (c .before .before .before .before .before .before .before .before .before .before .before .worth .ensures),
       shown-again (a .s) (now (a .masks)) (now (a .trail)) (k .trail) _ (a .n) (c .before .before .before .before .before .state-at .result) (full s) (k .inv .3) (k .inv .5) (c .before .before .before .before .before .state-at .ensures),
     )
 

@@ -1,0 +1,4 @@
+pub mod Words
+pub mod Same
+pub mod Determined
+pub mod Sifting
