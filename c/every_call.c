@@ -131,6 +131,20 @@ static void variables(const struct wyh_job *job) {
     board(&some, "1\n", WYH_BOARD_ROOM);
 }
 
+/* Tests that see the whole log: the same questions with tests inside a walk that see up to their own place, and up to the outer now. */
+static void readings(const struct wyh_job *job) {
+    struct wyh_job end = *job;
+    end.reading = WYH_END;
+    reach(job, "*;n?<a011", 0);
+    reach(&end, "*;n?<a011", 0);
+    verdict(job, "<-;a00;?<;*na021*n1");
+    verdict(&end, "<-;a00;?<;*na021*n1");
+    finish(job, ";*n?<-;a00;?<a021*n1", 2);
+    finish(&end, ";*n?<-;a00;?<a021*n1", 2);
+    next(job, ";a00;a01;a02;a00;?<-;a00;?<a011*n1a01");
+    next(&end, ";a00;a01;a02;a00;?<-;a00;?<a011*n1a01");
+}
+
 /* Effects that depend: 00 puts label 01 when the carton, 00, is open; 01 closes it; 02 opens it. The states, what is left to do, and a table of the wrong length. */
 static void depends(void) {
     const uint32_t masks[] = {0, 0, 1, 0, 2, 0, 0, 0, 0, 0, WYH_PLAIN_ROW(0, 0, 0, 1), WYH_PLAIN_ROW(0, 0, 1, 0)};
@@ -162,8 +176,9 @@ static void read_sheet(const char *text) {
     struct wyh_sheet sheet;
     uint8_t yes, refused = wyh_job_read_sheet(bytes(text), strlen(text), masks, log, &sheet);
     told("read_sheet", refused);
-    printf("  line %lu, %lu fluents, %lu actions, domain %lu, %lu masks, %lu steps\n", (unsigned long)sheet.line, (unsigned long)sheet.job.fluents,
-           (unsigned long)sheet.job.actions, (unsigned long)sheet.job.domain, (unsigned long)sheet.job.masks_len, (unsigned long)sheet.job.log_len);
+    printf("  line %lu, %lu fluents, %lu actions, domain %lu, %lu masks, %lu steps, reading %lu\n", (unsigned long)sheet.line, (unsigned long)sheet.job.fluents,
+           (unsigned long)sheet.job.actions, (unsigned long)sheet.job.domain, (unsigned long)sheet.job.masks_len, (unsigned long)sheet.job.log_len,
+           (unsigned long)sheet.job.reading);
     printf("  ask \"%.*s\", run \"%.*s\", more %lu\n", (int)sheet.ask_len, (const char *)(sheet.ask ? sheet.ask : bytes("")), (int)sheet.run_len,
            (const char *)(sheet.run ? sheet.run : bytes("")), (unsigned long)sheet.more);
     if (refused) return;
@@ -215,6 +230,12 @@ static const char *const sheet_3 =
     "act=00000000,00000000,00000000,00000000,00000000,00000001,00000000,00000000,00000000,00000000\n"
     "act=00000000,00000000,00000000,00000000,00000001,00000000,00000000,00000000,00000000,00000000\nlog=0100\nask=f01\nrun=;*n?f01\nmore=2\n";
 
+static const char *const sheet_4 =
+    "sheet=4\nfluents=02\nactions=03\ndomain=01\nstart=00000000\n"
+    "act=00000000,00000000,00000000,00000000,00000001,00000000,00000000,00000000,00000000,00000000\n"
+    "act=00000001,00000000,00000000,00000000,00000002,00000000,00000000,00000000,00000000,00000000\n"
+    "act=00000000,00000000,00000000,00000000,00000000,00000003,00000000,00000000,00000000,00000000\nlog=00020001\nnow=end\nask=<-;a00;?<;*na021*n1\nrun=;a00;a02;a00a01\nmore=0\n";
+
 int main(void) {
     const uint32_t masks[] = {WYH_PLAIN_ROW(0, 0, 1, 0), WYH_PLAIN_ROW(1, 0, 2, 0), WYH_PLAIN_ROW(0, 0, 0, 3)};
     const uint8_t log[4] = {0, 1, 2, 0};
@@ -253,14 +274,17 @@ int main(void) {
     variables(&job);
     tallies(&job);
     depends();
+    readings(&job);
     nothing(&job);
     read_sheet(sheet);
     read_sheet(sheet_2);
     read_sheet(sheet_3);
+    read_sheet(sheet_4);
     read_sheet("sheet=0\n");
     answer(sheet);
     answer(sheet_2);
     answer(sheet_3);
+    answer(sheet_4);
     answer("sheet=0\n");
     return 0;
 }

@@ -11,15 +11,17 @@
  *         asked one by one. A binder goes over its part once for each value, so binders nested k deep can take the domain to the power of k times as long as their part alone. A finish whose
  *         run names its labels tries one action a step. A run that leaves open which actions come, and says only what has to be on in the end, is searched: up to `actions` to the power of
  *         `more` sequences, of those actions that matter to it; with more than ten such actions and `more` 6 that is over 10 milliseconds. docs/BENCHMARKS.md has the times.
- *   Stack: measured, less than 43 kilobytes (a text of 255 signs that is refused; a call with no refused rule takes less than 21); no heap.
+ *   Stack: measured, less than 44 kilobytes (a text of 255 signs that is refused; a call with no refused rule takes less than 23); no heap.
  *   Threads: nothing is kept between calls, so any number of threads may call at once, each with lent memory of its own.
  *
  * A job is a theory and a log. The theory: `fluents` (0 to 32), `actions` (1 to 64), the start state, and a mask table of ten masks an action, need, ban, then twice when,
  * unless, put, drop, in order of action number: masks_len is WYH_ROW_MASKS * actions. An action is possible where its need bits are on and its ban bits off. The last eight masks are the two
  * clauses of its effects: a clause acts if its when bits are on and its unless bits off before the step; then a fluent is on if an acting clause puts it, or it was on and no acting clause
  * drops it. WYH_PLAIN_ROW makes the row of an action whose effects do not depend. The log: 0 to 63 bytes, one action each; steps that were not possible are accepted. A rule is 1 to 255 bytes
- * of text (docs/LANGUAGE.md). The domain, 1 to 16, is how many values a variable in a rule has, from 0 on; with domain 0 a rule has no variables. Calls without a rule
- * do not look at it.
+ * of text (docs/LANGUAGE.md). The domain, 1 to 16, is how many values a variable in a rule has, from 0 on; with domain 0 a rule has no variables. The reading says what the now of a test
+ * inside a walk is: its own position (WYH_STEP), or the outer now (WYH_END); a run's own test, outside every `<`, keeps its own position either way. Calls without a rule look at neither.
+ *
+ * An answer with its now stands: which actions follow position now in the log does not matter for reach and verdict, nor for the state at a position up to now.
  */
 #ifndef WYNDHOPPER_H
 #define WYNDHOPPER_H
@@ -27,7 +29,7 @@
 #include <stddef.h>
 #include <stdint.h>
 
-#define WYH_VERSION "0.6.0"
+#define WYH_VERSION "0.7.0"
 
 #ifdef __cplusplus
 extern "C" {
@@ -54,6 +56,9 @@ enum {
     WYH_REFUSED_UNBOUND = 13
 };
 
+/* How a test inside a walk, `?T`, is read: its now is its own position, or the outer now. Any other number is refused as 3. */
+enum { WYH_STEP = 0, WYH_END = 1 };
+
 /* A set of positions has so many words of 64, lowest positions first; bit q of the first word is position q. */
 enum { WYH_SET_WORDS = 1 };
 
@@ -76,7 +81,7 @@ enum { WYH_ROW_MASKS = 10 };
 #define WYH_PLAIN_ROW(need, ban, put, drop) (need), (ban), 0, 0, (put), (drop), 0, 0, 0, 0
 
 /* What reading a sheet is lent: a row for each of 64 actions, a log and a byte, and so many numbers. */
-enum { WYH_MASKS_ROOM = 640, WYH_LOG_ROOM = 64, WYH_SHEET_NUMBERS = 11 };
+enum { WYH_MASKS_ROOM = 640, WYH_LOG_ROOM = 64, WYH_SHEET_NUMBERS = 12 };
 
 /* ---- The calls over a job --------------------------------------------------------------------------------------------------------------------------------- */
 
@@ -89,9 +94,10 @@ struct wyh_job {
     const uint8_t *log;
     size_t log_len;
     size_t domain;
+    size_t reading;
 };
 
-#define WYH_JOB_EMPTY {0, 0, 0, NULL, 0, NULL, 0, 0}
+#define WYH_JOB_EMPTY {0, 0, 0, NULL, 0, NULL, 0, 0, WYH_STEP}
 
 /* The positions that a walk leads to. */
 struct wyh_reached {
@@ -143,7 +149,7 @@ struct wyh_sheet {
  *   wyh_job_normal      the normal form of a rule, in which no `-` is left, at the front of out; *count is its length. Refusals 3, 6 to 9, 13, 12 (room is less than
  *                       that); then *count is 0.
  *
- * The last two look at the job's counts and domain alone.
+ * The last two look at the job's counts and domain alone, and not at its reading.
  *
  *   wyh_job_tally       the tally of the job's log, made afresh in *tally. Refusals 3, 4, 5; *tally then keeps every field.
  *   wyh_job_append      takes one action more into *tally; the job's own log is not looked at. An action that is not possible is taken in too: its effects apply, and the last impossible step
@@ -180,22 +186,22 @@ static inline const char *wyh_refusal_sentence(uint8_t number);
 uint8_t wyh_state(size_t fluents, size_t actions, uint32_t start, const uint32_t *masks, size_t masks_len, const uint8_t *log, size_t log_len,
                   size_t position, uint32_t *state);
 
-uint8_t wyh_reach(size_t fluents, size_t actions, size_t domain, uint32_t start, const uint32_t *masks, size_t masks_len, const uint8_t *log, size_t log_len,
+uint8_t wyh_reach(size_t fluents, size_t actions, size_t domain, uint32_t start, size_t reading, const uint32_t *masks, size_t masks_len, const uint8_t *log, size_t log_len,
                   const uint8_t *walk, size_t walk_len, size_t then, size_t now, uint64_t *set, uint32_t *count, uint32_t *earliest);
 
-uint8_t wyh_verdict(size_t fluents, size_t actions, size_t domain, uint32_t start, const uint32_t *masks, size_t masks_len, const uint8_t *log, size_t log_len,
+uint8_t wyh_verdict(size_t fluents, size_t actions, size_t domain, uint32_t start, size_t reading, const uint32_t *masks, size_t masks_len, const uint8_t *log, size_t log_len,
                     const uint8_t *test, size_t test_len, size_t then, size_t now, uint8_t *yes);
 
-uint8_t wyh_board(size_t fluents, size_t actions, size_t domain, uint32_t start, const uint32_t *masks, size_t masks_len, const uint8_t *log, size_t log_len,
+uint8_t wyh_board(size_t fluents, size_t actions, size_t domain, uint32_t start, size_t reading, const uint32_t *masks, size_t masks_len, const uint8_t *log, size_t log_len,
                   const uint8_t *tests, size_t tests_len, size_t then, size_t now, uint8_t *out, size_t room, size_t *count);
 
 uint8_t wyh_possible(size_t fluents, size_t actions, uint32_t start, const uint32_t *masks, size_t masks_len, const uint8_t *log, size_t log_len,
                      size_t action, size_t position, uint8_t *yes);
 
-uint8_t wyh_next(size_t fluents, size_t actions, size_t domain, uint32_t start, const uint32_t *masks, size_t masks_len, const uint8_t *log, size_t log_len,
+uint8_t wyh_next(size_t fluents, size_t actions, size_t domain, uint32_t start, size_t reading, const uint32_t *masks, size_t masks_len, const uint8_t *log, size_t log_len,
                  const uint8_t *run, size_t run_len, uint64_t *next);
 
-uint8_t wyh_finish(size_t fluents, size_t actions, size_t domain, uint32_t start, const uint32_t *masks, size_t masks_len, const uint8_t *log, size_t log_len,
+uint8_t wyh_finish(size_t fluents, size_t actions, size_t domain, uint32_t start, size_t reading, const uint32_t *masks, size_t masks_len, const uint8_t *log, size_t log_len,
                    const uint8_t *run, size_t run_len, size_t more, uint8_t *out, size_t room, size_t *count);
 
 uint8_t wyh_read_rule(const uint8_t *text, size_t text_len, uint8_t kind, size_t fluents, size_t actions, size_t domain, size_t *rest);
@@ -210,8 +216,8 @@ uint8_t wyh_append(size_t fluents, size_t actions, uint32_t start, const uint32_
 /* The quick yes by the two fields of a tally that it looks at. */
 uint8_t wyh_happened(size_t actions, const uint8_t last[WYH_TALLY_ACTIONS], uint8_t impossible, size_t action, uint8_t *yes);
 
-/* Reads a sheet. The numbers are: the line of the refusal, fluents, actions, domain (0 on a sheet of version 1), start, steps of the log, where the ask rule begins and ends in the sheet, where the
- * run rule does, more; on a refusal all are 0 but the line. */
+/* Reads a sheet. The numbers are: the line of the refusal, fluents, actions, domain (0 on a sheet of version 1), start, steps of the log, reading (0 on a sheet of version 1 to 3), where the ask
+ * rule begins and ends in the sheet, where the run rule does, more; on a refusal all are 0 but the line. */
 uint8_t wyh_read_sheet(const uint8_t *sheet, size_t sheet_len, uint32_t masks[WYH_MASKS_ROOM], uint8_t log[WYH_LOG_ROOM], size_t numbers[WYH_SHEET_NUMBERS]);
 
 /* Writes what the program jobsheet prints for a sheet to the front of out, which has WYH_ANSWER_ROOM bytes, and returns how many bytes that is. A refused sheet
@@ -238,7 +244,7 @@ static inline uint8_t wyh_job_state(const struct wyh_job *job, size_t position, 
 
 static inline uint8_t wyh_job_reach(const struct wyh_job *job, const uint8_t *walk, size_t walk_len, size_t then, size_t now, struct wyh_reached *reached) {
     uint32_t count, earliest;
-    uint8_t refused = wyh_reach(job->fluents, job->actions, job->domain, job->start, wyh_masks(job), job->masks_len, wyh_bytes(job->log, job->log_len), job->log_len,
+    uint8_t refused = wyh_reach(job->fluents, job->actions, job->domain, job->start, job->reading, wyh_masks(job), job->masks_len, wyh_bytes(job->log, job->log_len), job->log_len,
                                 wyh_bytes(walk, walk_len), walk_len, then, now, &reached->set[0], &count, &earliest);
     reached->count = count;
     reached->earliest = earliest;
@@ -246,13 +252,13 @@ static inline uint8_t wyh_job_reach(const struct wyh_job *job, const uint8_t *wa
 }
 
 static inline uint8_t wyh_job_verdict(const struct wyh_job *job, const uint8_t *test, size_t test_len, size_t then, size_t now, uint8_t *yes) {
-    return wyh_verdict(job->fluents, job->actions, job->domain, job->start, wyh_masks(job), job->masks_len, wyh_bytes(job->log, job->log_len), job->log_len,
+    return wyh_verdict(job->fluents, job->actions, job->domain, job->start, job->reading, wyh_masks(job), job->masks_len, wyh_bytes(job->log, job->log_len), job->log_len,
                        wyh_bytes(test, test_len), test_len, then, now, yes);
 }
 
 static inline uint8_t wyh_job_board(const struct wyh_job *job, const uint8_t *tests, size_t tests_len, size_t then, size_t now, uint8_t *out, size_t room, size_t *count) {
     uint8_t nothing[1] = {0};
-    return wyh_board(job->fluents, job->actions, job->domain, job->start, wyh_masks(job), job->masks_len, wyh_bytes(job->log, job->log_len), job->log_len,
+    return wyh_board(job->fluents, job->actions, job->domain, job->start, job->reading, wyh_masks(job), job->masks_len, wyh_bytes(job->log, job->log_len), job->log_len,
                      wyh_bytes(tests, tests_len), tests_len, then, now, room == 0 ? nothing : out, room, count);
 }
 
@@ -262,13 +268,13 @@ static inline uint8_t wyh_job_possible(const struct wyh_job *job, size_t action,
 }
 
 static inline uint8_t wyh_job_next(const struct wyh_job *job, const uint8_t *run, size_t run_len, uint64_t *actions) {
-    return wyh_next(job->fluents, job->actions, job->domain, job->start, wyh_masks(job), job->masks_len, wyh_bytes(job->log, job->log_len), job->log_len,
+    return wyh_next(job->fluents, job->actions, job->domain, job->start, job->reading, wyh_masks(job), job->masks_len, wyh_bytes(job->log, job->log_len), job->log_len,
                     wyh_bytes(run, run_len), run_len, actions);
 }
 
 static inline uint8_t wyh_job_finish(const struct wyh_job *job, const uint8_t *run, size_t run_len, size_t more, uint8_t *out, size_t room, size_t *count) {
     uint8_t nothing[1] = {0};
-    return wyh_finish(job->fluents, job->actions, job->domain, job->start, wyh_masks(job), job->masks_len, wyh_bytes(job->log, job->log_len), job->log_len,
+    return wyh_finish(job->fluents, job->actions, job->domain, job->start, job->reading, wyh_masks(job), job->masks_len, wyh_bytes(job->log, job->log_len), job->log_len,
                       wyh_bytes(run, run_len), run_len, more, room == 0 ? nothing : out, room, count);
 }
 
@@ -299,11 +305,11 @@ static inline uint8_t wyh_job_read_sheet(const uint8_t *text, size_t text_len, u
     uint8_t refused = wyh_read_sheet(wyh_bytes(text, text_len), text_len, masks, log, numbers);
     sheet->line = numbers[0];
     sheet->job = empty;
-    sheet->ask = refused ? NULL : text + numbers[6];
-    sheet->ask_len = numbers[7] - numbers[6];
-    sheet->run = refused ? NULL : text + numbers[8];
-    sheet->run_len = numbers[9] - numbers[8];
-    sheet->more = numbers[10];
+    sheet->ask = refused ? NULL : text + numbers[7];
+    sheet->ask_len = numbers[8] - numbers[7];
+    sheet->run = refused ? NULL : text + numbers[9];
+    sheet->run_len = numbers[10] - numbers[9];
+    sheet->more = numbers[11];
     if (refused) return refused;
     sheet->job.fluents = numbers[1];
     sheet->job.actions = numbers[2];
@@ -313,6 +319,7 @@ static inline uint8_t wyh_job_read_sheet(const uint8_t *text, size_t text_len, u
     sheet->job.masks_len = WYH_ROW_MASKS * numbers[2];
     sheet->job.log = log;
     sheet->job.log_len = numbers[5];
+    sheet->job.reading = numbers[6];
     return 0;
 }
 
@@ -323,9 +330,9 @@ static inline uint8_t wyh_board_refusal(uint8_t byte) {
 static inline const char *wyh_refusal_sentence(uint8_t number) {
     switch (number) {
     case 0: return "not refused";
-    case WYH_REFUSED_SHEET_TOO_LONG: return "the sheet is longer than 6,729 bytes";
+    case WYH_REFUSED_SHEET_TOO_LONG: return "the sheet is longer than 6,738 bytes";
     case WYH_REFUSED_BAD_LINE: return "the expected key and '=' do not open the line, or its LF is missing, or bytes follow the last line, or a board lacks its last LF";
-    case WYH_REFUSED_BAD_NUMBER: return "a count, the domain, the start state, a mask, the version or more is not written as it should be or out of its range, or a mask table has the wrong length, or a board has more than 64 tests";
+    case WYH_REFUSED_BAD_NUMBER: return "a count, the domain, the start state, a mask, the reading, the version or more is not written as it should be or out of its range, or a mask table has the wrong length, or a board has more than 64 tests";
     case WYH_REFUSED_LACKS_FLUENT: return "start or an action's mask names a fluent the theory lacks";
     case WYH_REFUSED_BAD_LOG: return "the log has an odd number of digits, a non-digit, more than 63 actions, or an action the theory lacks";
     case WYH_REFUSED_BAD_RULE: return "a rule is empty, over 255 bytes, not exactly one rule of its kind, or has a sign of variables where there is no domain";

@@ -1,6 +1,6 @@
 //! Every call once with an answer and once with a refusal, over three actions: print 1, print 2 (needs label 1), void both. It prints what
 //! c/every_call.c prints.
-use wyndhopper::{plain_row, Job, Kind, Refusal, Sheet, SheetRoom, Tally};
+use wyndhopper::{plain_row, Job, Kind, Reading, Refusal, Sheet, SheetRoom, Tally};
 
 fn told<T>(call: &str, answer: &Result<T, Refusal>) {
     match answer {
@@ -113,6 +113,19 @@ fn variables(job: &Job) {
     board(&some.with_domain(17), "1\n", wyndhopper::BOARD_ROOM);
 }
 
+/// Tests that see the whole log: the same questions with tests inside a walk that see up to their own place, and up to the outer now.
+fn readings(job: &Job) {
+    let end = job.with_reading(Reading::End);
+    reach(job, "*;n?<a011", 0);
+    reach(&end, "*;n?<a011", 0);
+    verdict(job, "<-;a00;?<;*na021*n1");
+    verdict(&end, "<-;a00;?<;*na021*n1");
+    finish(job, ";*n?<-;a00;?<a021*n1", 2);
+    finish(&end, ";*n?<-;a00;?<a021*n1", 2);
+    next(job, ";a00;a01;a02;a00;?<-;a00;?<a011*n1a01");
+    next(&end, ";a00;a01;a02;a00;?<-;a00;?<a011*n1a01");
+}
+
 /// Effects that depend: 00 puts label 01 when the carton, 00, is open; 01 closes it; 02 opens it. The states, what is left to do, and a table of the wrong length.
 fn depends() {
     let masks = [[0, 0, 1, 0, 2, 0, 0, 0, 0, 0], plain_row(0, 0, 0, 1), plain_row(0, 0, 1, 0)];
@@ -131,13 +144,13 @@ fn read_sheet(text: &str) {
     let answer = Sheet::read(text.as_bytes(), &mut room);
     told("read_sheet", &answer.map_err(|fault| fault.refusal));
     let Ok(sheet) = answer else {
-        println!("  line {}, 0 fluents, 0 actions, domain 0, 0 masks, 0 steps", answer.unwrap_err().line);
+        println!("  line {}, 0 fluents, 0 actions, domain 0, 0 masks, 0 steps, reading 0", answer.unwrap_err().line);
         println!("  ask \"\", run \"\", more 0");
         return;
     };
     let job = sheet.job;
     print!("  line 0, {} fluents, {} actions, domain {}, ", job.fluents(), job.actions(), job.domain());
-    println!("{} masks, {} steps", job.masks().len(), job.log().len());
+    println!("{} masks, {} steps, reading {}", job.masks().len(), job.log().len(), job.reading() as usize);
     println!("  ask \"{}\", run \"{}\", more {}", String::from_utf8_lossy(sheet.ask), String::from_utf8_lossy(sheet.run), sheet.more);
     let asked = job.verdict(sheet.ask, job.log().len(), job.log().len());
     told("its ask", &asked);
@@ -177,6 +190,11 @@ const SHEET_3: &str = "sheet=3\nfluents=02\nactions=03\ndomain=01\nstart=0000000
     act=00000000,00000000,00000000,00000000,00000000,00000001,00000000,00000000,00000000,00000000\n\
     act=00000000,00000000,00000000,00000000,00000001,00000000,00000000,00000000,00000000,00000000\nlog=0100\nask=f01\nrun=;*n?f01\nmore=2\n";
 
+const SHEET_4: &str = "sheet=4\nfluents=02\nactions=03\ndomain=01\nstart=00000000\n\
+    act=00000000,00000000,00000000,00000000,00000001,00000000,00000000,00000000,00000000,00000000\n\
+    act=00000001,00000000,00000000,00000000,00000002,00000000,00000000,00000000,00000000,00000000\n\
+    act=00000000,00000000,00000000,00000000,00000000,00000003,00000000,00000000,00000000,00000000\nlog=00020001\nnow=end\nask=<-;a00;?<;*na021*n1\nrun=;a00;a02;a00a01\nmore=0\n";
+
 fn main() {
     let masks = [plain_row(0, 0, 1, 0), plain_row(1, 0, 2, 0), plain_row(0, 0, 0, 3)];
     println!("version {}", wyndhopper::VERSION);
@@ -208,13 +226,16 @@ fn main() {
     variables(&job);
     tallies(&job);
     depends();
+    readings(&job);
     nothing(&job);
     read_sheet(SHEET);
     read_sheet(SHEET_2);
     read_sheet(SHEET_3);
+    read_sheet(SHEET_4);
     read_sheet("sheet=0\n");
     answer(SHEET);
     answer(SHEET_2);
     answer(SHEET_3);
+    answer(SHEET_4);
     answer("sheet=0\n");
 }

@@ -51,11 +51,20 @@ pub fn board_verdict(byte: u8) -> Option<Result<bool, Refusal>> {
     }
 }
 
+/// How a test inside a walk, `?T`, is read: what its now is. It is asked of what has a `<` around it and of walk questions; a run's own `?T`, outside every `<`, keeps its own position.
+#[derive(Clone, Copy, Debug, PartialEq, Eq)]
+pub enum Reading {
+    /// Its own position: it sees the log up to there.
+    Step = 0,
+    /// The outer now.
+    End = 1,
+}
+
 /// A theory with a job's log. It is made by [`Job::new`], so that what later versions add breaks no program.
 ///
 /// The mask table has ten masks an action: need, ban, then twice when, unless, put, drop; [`plain_row`] makes the row of an action whose effects do not depend. A clause acts if its when bits are on
-/// and its unless bits off before the step; then a fluent is on if an acting clause puts it, or it was on and no acting clause drops it. The domain is how many values a variable in a rule has,
-/// 1 to 16; 0, as [`Job::new`] has it, is a job without variables. Calls without a rule do not look at it.
+/// and its unless bits off before the step; then a fluent is on if an acting clause puts it, or it was on and no acting clause drops it. The domain is how many values a variable in a rule has, 1 to 16; 0, as [`Job::new`] has it, is a job without variables. The
+/// reading is the now of a test inside a walk; [`Job::new`] has [`Reading::Step`]. Calls without a rule look at neither, and [`Job::read_rule`] and [`Job::normal`] do not look at the reading.
 #[derive(Clone, Copy, Debug, PartialEq, Eq)]
 pub struct Job<'a> {
     fluents: usize,
@@ -64,6 +73,7 @@ pub struct Job<'a> {
     masks: &'a [u32],
     log: &'a [u8],
     domain: usize,
+    reading: Reading,
 }
 
 /// The positions that a walk leads to: the set, how many they are, and the earliest, [`NO_POSITION`] when there is none.
@@ -91,9 +101,9 @@ pub(crate) fn answered<T>(number: u8, value: T) -> Result<T, Refusal> {
 }
 
 impl<'a> Job<'a> {
-    /// A job whose fluents are all off at the start, whose log is empty and whose rules have no variables.
+    /// A job whose fluents are all off at the start, whose log is empty, whose rules have no variables and whose tests inside a walk see the log up to their own position.
     pub const fn new(fluents: usize, actions: usize, masks: &'a [u32]) -> Self {
-        Job { fluents, actions, start: 0, masks, log: &[], domain: 0 }
+        Job { fluents, actions, start: 0, masks, log: &[], domain: 0, reading: Reading::Step }
     }
 
     /// The same job with this start state.
@@ -122,6 +132,22 @@ impl<'a> Job<'a> {
         Job { domain, ..self }
     }
 
+    /// The same job with tests inside a walk read so.
+    ///
+    /// ```
+    /// use wyndhopper::{plain_row, Job, Reading};
+    ///
+    /// // Two labels, 1 and then 2. Was label 1 out with label 2 still to come?
+    /// let masks = [plain_row(0, 0, 1, 0), plain_row(1, 0, 2, 0)];
+    /// let job = Job::new(2, 2, masks.as_flattened()).with_log(&[0, 1]);
+    /// let test = b"<;a00?<a0111";
+    /// assert_eq!(job.verdict(test, 0, 2), Ok(false));
+    /// assert_eq!(job.with_reading(Reading::End).verdict(test, 0, 2), Ok(true));
+    /// ```
+    pub const fn with_reading(self, reading: Reading) -> Self {
+        Job { reading, ..self }
+    }
+
     pub const fn fluents(&self) -> usize {
         self.fluents
     }
@@ -144,6 +170,10 @@ impl<'a> Job<'a> {
 
     pub const fn domain(&self) -> usize {
         self.domain
+    }
+
+    pub const fn reading(&self) -> Reading {
+        self.reading
     }
 
     /// The state at a position of the log.
@@ -174,6 +204,7 @@ impl<'a> Job<'a> {
                 self.actions,
                 self.domain,
                 self.start,
+                self.reading as usize,
                 self.masks.as_ptr(),
                 self.masks.len(),
                 self.log.as_ptr(),
@@ -199,6 +230,7 @@ impl<'a> Job<'a> {
                 self.actions,
                 self.domain,
                 self.start,
+                self.reading as usize,
                 self.masks.as_ptr(),
                 self.masks.len(),
                 self.log.as_ptr(),
@@ -223,6 +255,7 @@ impl<'a> Job<'a> {
                 self.actions,
                 self.domain,
                 self.start,
+                self.reading as usize,
                 self.masks.as_ptr(),
                 self.masks.len(),
                 self.log.as_ptr(),
@@ -268,6 +301,7 @@ impl<'a> Job<'a> {
                 self.actions,
                 self.domain,
                 self.start,
+                self.reading as usize,
                 self.masks.as_ptr(),
                 self.masks.len(),
                 self.log.as_ptr(),
@@ -289,6 +323,7 @@ impl<'a> Job<'a> {
                 self.actions,
                 self.domain,
                 self.start,
+                self.reading as usize,
                 self.masks.as_ptr(),
                 self.masks.len(),
                 self.log.as_ptr(),

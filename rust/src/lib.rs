@@ -34,7 +34,7 @@ mod refusal;
 mod sheet;
 mod tally;
 
-pub use job::{board_verdict, plain_row, Job, Reached, BOARD_ROOM, FINISH_ROOM, NO_POSITION, ROW_MASKS, RULE_ROOM, SET_WORDS};
+pub use job::{board_verdict, plain_row, Job, Reached, Reading, BOARD_ROOM, FINISH_ROOM, NO_POSITION, ROW_MASKS, RULE_ROOM, SET_WORDS};
 pub use refusal::Refusal;
 pub use sheet::{Fault, Sheet, SheetRoom, LOG_ROOM, MASKS_ROOM};
 pub use tally::{Tally, TALLY_ACTIONS};

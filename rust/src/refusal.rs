@@ -53,9 +53,9 @@ impl Refusal {
 impl fmt::Display for Refusal {
     fn fmt(&self, f: &mut fmt::Formatter<'_>) -> fmt::Result {
         f.write_str(match self {
-            Refusal::SheetTooLong => "the sheet is longer than 6,729 bytes",
+            Refusal::SheetTooLong => "the sheet is longer than 6,738 bytes",
             Refusal::BadLine => "the expected key and '=' do not open the line, or its LF is missing, or bytes follow the last line, or a board lacks its last LF",
-            Refusal::BadNumber => "a count, the domain, the start state, a mask, the version or more is not written as it should be or out of its range, or a mask table has the wrong length, or a board has more than 64 tests",
+            Refusal::BadNumber => "a count, the domain, the start state, a mask, the reading, the version or more is not written as it should be or out of its range, or a mask table has the wrong length, or a board has more than 64 tests",
             Refusal::LacksFluent => "start or an action's mask names a fluent the theory lacks",
             Refusal::BadLog => "the log has an odd number of digits, a non-digit, more than 63 actions, or an action the theory lacks",
             Refusal::BadRule => "a rule is empty, over 255 bytes, not exactly one rule of its kind, or has a sign of variables where there is no domain",

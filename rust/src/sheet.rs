@@ -1,12 +1,12 @@
 //! A whole sheet: read into a job and what the sheet asks of it.
 use crate::job::answered;
-use crate::{raw, Job, Refusal, ROW_MASKS};
+use crate::{raw, Job, Reading, Refusal, ROW_MASKS};
 use std::fmt;
 
 /// How many masks and how much of a log the reading of a sheet is lent, and how many numbers it gives.
 pub const MASKS_ROOM: usize = 64 * ROW_MASKS;
 pub const LOG_ROOM: usize = 64;
-const SHEET_NUMBERS: usize = 11;
+const SHEET_NUMBERS: usize = 12;
 
 /// Room for the masks and the log of a sheet. A refused sheet leaves it as it was.
 #[derive(Clone, Debug, PartialEq, Eq)]
@@ -71,9 +71,11 @@ impl<'a> Sheet<'a> {
         let mut numbers = [0; SHEET_NUMBERS];
         let refused =
             unsafe { raw::wyh_read_sheet(text.as_ptr(), text.len(), room.masks.as_mut_ptr(), room.log.as_mut_ptr(), numbers.as_mut_ptr()) };
-        let [line, fluents, actions, domain, start, steps, ask, ask_end, run, run_end, more] = numbers;
+        let [line, fluents, actions, domain, start, steps, reading, ask, ask_end, run, run_end, more] = numbers;
         answered(refused, ()).map_err(|refusal| Fault { refusal, line })?;
+        let reading = if reading == 0 { Reading::Step } else { Reading::End };
         let job = Job::new(fluents, actions, &room.masks[..ROW_MASKS * actions]).with_domain(domain).with_start(start as u32).with_log(&room.log[..steps]);
+        let job = job.with_reading(reading);
         Ok(Sheet { job, ask: &text[ask..ask_end], run: &text[run..run_end], more })
     }
 }

@@ -35,16 +35,16 @@ use Rattle.ask.proofs.Asking.{stands-first, asked-readable, asked-times
 pub ends-marked : {bytes before after : List ℕ} → length bytes ≤ textLimit → before ≡ noEnds → FillOutcome bytes before after → Ends bytes after
 ends-marked {bytes} {before} {after} short empty o = ends-told bytes after short (subst (λ (l : List ℕ). FillOutcome bytes l after) empty o)
 
--- no variable is bound where a question is asked
+-- no variable is bound where a question is asked, and all its tests have one reading
 abbrev values : Subject → List ℕ
-values s = unbound (countsOf s .domain)
+values s = unbound (countsOf s .domain) (s .setting .reading) (s .setting .reading)
 
 -- A question that no check refuses, laid out for the evaluator; the one position is then.
 module _ {kind : Kind} {s : Subject} {bytes ends rows : List ℕ} {then now : ℕ}
     (a : Accepted (askRows kind s bytes then now)) (laid : LaidOut s bytes ends rows)
     (one : PositionSet) (at : (q : ℕ) → holds one q ≡ (eqb then q && ltb q places)) where
   tabled : Tabled (worldOf s) rows (values s) now
-  tabled = record { described = laid .described; logged = asked-times a .1; room = asked-readable a .short; bears = bears-none (worldOf s) refl }
+  tabled = record { described = laid .described; logged = asked-times a .1; room = asked-readable a .short; bears = bears-none (worldOf s) refl (s .setting .reading) (s .setting .reading) refl refl }
 
   alone : (q : ℕ) → (holds one q ≡ true) ↔ (q ≡ then)
   alone = one-there then one (omega (arith, asked-times a, asked-readable a .short)) at
@@ -111,11 +111,12 @@ module _ {s : Subject} {bytes ends rows : List ℕ} {then now : ℕ} where
       go t into out false e = inr (refl, λ h. off-on (sym e) (out h))
 
 -- whichever log the rows are of
-pub test-told : {bytes ends rows : List ℕ} {domain then now : ℕ} → Ends bytes ends → (one kept : PositionSet)
-    → ((q : ℕ) → holds one q ≡ (eqb then q && ltb q places)) → TestFound bytes 0 rows (unbound domain) now (holds one) (holds kept)
-    → (has : Bool) → has ≡ holds kept then → TestTold bytes domain rows then now has
-test-told {bytes} {rows = rows} {now = now} marked one kept at f has e = record {
-  each = λ s many a described.
-      let found = subst (λ (d : ℕ). TestFound bytes 0 rows (unbound d) now (holds one) (holds kept)) (sym many) f in
+pub test-told : {bytes ends rows : List ℕ} {domain reading then now : ℕ} → Ends bytes ends → (one kept : PositionSet)
+    → ((q : ℕ) → holds one q ≡ (eqb then q && ltb q places)) → TestFound bytes 0 rows (unbound domain reading reading) now (holds one) (holds kept)
+    → (has : Bool) → has ≡ holds kept then → TestTold bytes domain reading rows then now has
+test-told {bytes} {rows = rows} {reading = reading} {now = now} marked one kept at f has e = record {
+  each = λ s many read a described.
+      let counted = subst (λ (d : ℕ). TestFound bytes 0 rows (unbound d reading reading) now (holds one) (holds kept)) (sym many) f in
+      let found = subst (λ (r : ℕ). TestFound bytes 0 rows (unbound (countsOf s .domain) r r) now (holds one) (holds kept)) (sym read) counted in
       verdict-right a (record { marked = marked; described = described }) one kept at found has e;
 }

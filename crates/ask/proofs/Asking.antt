@@ -33,7 +33,7 @@ module _ (kind : Kind) (s : Subject) (bytes : List ℕ) (then now : ℕ) where
   -- the first row of a rule's table is the world's, where the counts are good
   pub rule-refuses : {N : ℕ} → Accepted (worldRows s) → Refused (ruleRows true kind bytes (countsOf s)) N → Refused (askRows kind s bytes then now) N
   rule-refuses a r =
-      refused-second (worldRows s) later a (refused-first rule-part (timeRows s then now) (rest-refused (λ h. not-first a (inl h)) r))
+      refused-second (worldRows s) later a (refused-first rule-part (timeRows s then now) (rest-refused (λ h. not-first a (inl (inl h))) r))
 
   pub times-refuse : Accepted (worldRows s) → Accepted (ruleRows true kind bytes (countsOf s)) → BadTimes then now (s .log) → Refused (askRows kind s bytes then now) 10
   times-refuse a b bad =

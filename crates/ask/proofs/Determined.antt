@@ -70,9 +70,9 @@ judged-determined {s} {then = then} {now = now} {v = v} {u = u} r q =
     let e : q .test ≡ r .test = one-test (q .test) (r .test) (q .spells) (r .spells) in
     one-verdict (worldOf s) (r .test) then now (r .judged) (subst (λ (t : Test). Verdict (worldOf s) t then now u) e (q .judged))
 
-pub told-determined : {s : Subject} {bytes rows : List ℕ} {domain then now : ℕ} → countsOf s .domain ≡ domain → Accepted (askRows testKind s bytes then now)
-    → Describes (worldOf s) rows → (a b : Bool) → TestTold bytes domain rows then now a → TestTold bytes domain rows then now b → a ≡ b
-told-determined {s} many fine rows a b f g = Option·some-injective _ _ (judged-determined (f .each s many fine rows) (g .each s many fine rows))
+pub told-determined : {s : Subject} {bytes rows : List ℕ} {domain reading then now : ℕ} → countsOf s .domain ≡ domain → s .setting .reading ≡ reading → Accepted (askRows testKind s bytes then now)
+    → Describes (worldOf s) rows → (a b : Bool) → TestTold bytes domain reading rows then now a → TestTold bytes domain reading rows then now b → a ≡ b
+told-determined {s} many read fine rows a b f g = Option·some-injective _ _ (judged-determined (f .each s many read fine rows) (g .each s many read fine rows))
 
 module _ (s : Subject) (bytes : List ℕ) (then now : ℕ) where
   pub reach-determined : (a b : ReachAnswer) → ReachAnswered s bytes then now (numberGiven a) (setGiven a) (countGiven a) (earliestGiven a)
@@ -94,14 +94,14 @@ module _ (s : Subject) (bytes : List ℕ) (then now : ℕ) where
   ask-rises kind = refl
 
 -- What a job has come to, and what it asks for: its text stands there, and the rows are those of a log, so two answers are one.
-module _ {job ends rows : List ℕ} {domain end : ℕ} (here : WalkHere job ends 0) (w : World) (tabled : Tabled w rows (unbound domain) end) where
-  pub ended-determined : (a b : Bool) → EndTold job domain rows end a → EndTold job domain rows end b → a ≡ b
+module _ {job ends rows : List ℕ} {domain reading end : ℕ} (here : WalkHere job ends 0) (w : World) (tabled : Tabled w rows (unbound domain 0 reading) end) where
+  pub ended-determined : (a b : Bool) → EndTold job domain reading rows end a → EndTold job domain reading rows end b → a ≡ b
   ended-determined a b f g =
       let i = f .each w tabled (here .walk) (here .stands) in
       let j = g .each w tabled (here .walk) (here .stands) in
       same-truth a b (λ k. j .1 (i .0 k)) (λ k. i .1 (j .0 k))
 
-  pub asked-determined : {may : ℕ → Bool} (a b : ℕ) → a < 2 ^ actionLimit → b < 2 ^ actionLimit → AskTold may job domain rows end a → AskTold may job domain rows end b → a ≡ b
+  pub asked-determined : {may : ℕ → Bool} (a b : ℕ) → a < 2 ^ actionLimit → b < 2 ^ actionLimit → AskTold may job domain reading rows end a → AskTold may job domain reading rows end b → a ≡ b
   asked-determined a b short short′ f g = same-bits a b (λ i. elim (decLt i actionLimit) [
     | yes low ↦
         let u = f .each w tabled (here .walk) (here .stands) i low in

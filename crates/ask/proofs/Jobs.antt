@@ -23,7 +23,7 @@ module _ {from : Set} (front : (q : ℕ) → from q ≡ (eqb 0 q && ltb q places
   early end q h = let e = only q h in omega arith
 
   -- the job is finished where the set that it reaches from 0 holds the end
-  pub ended-right : {job rows : List ℕ} {domain end : ℕ} {reached : Set} → WalkFound job 0 false rows (unbound domain) end from reached → (answer : Bool) → answer ≡ reached end → EndTold job domain rows end answer
+  pub ended-right : {job rows : List ℕ} {domain reading end : ℕ} {reached : Set} → WalkFound job 0 false rows (unbound domain 0 reading) end from reached → (answer : Bool) → answer ≡ reached end → EndTold job domain reading rows end answer
   ended-right {end = end} f answer e = record {
     each = λ w tabled x there.
         let image = f .found w tabled (early end) x there in
@@ -35,7 +35,7 @@ module _ {from : Set} (front : (q : ℕ) → from q ≡ (eqb 0 q && ltb q places
   }
 
   -- what it asks for from 0
-  pub asked-right : {job rows : List ℕ} {domain end : ℕ} {may : ℕ → Bool} {asked : ℕ} → AskFound may job 0 rows (unbound domain) end from asked → AskTold may job domain rows end asked
+  pub asked-right : {job rows : List ℕ} {domain reading end : ℕ} {may : ℕ → Bool} {asked : ℕ} → AskFound may job 0 rows (unbound domain 0 reading) end from asked → AskTold may job domain reading rows end asked
   asked-right {end = end} {may = may} f = record {
     each = λ w tabled x there a h.
         let by = f .found w tabled (early end) x there a h in (

@@ -14,11 +14,12 @@ use Rattle.grammar.specs.Standing.{Stands}
 use Rattle.runs.specs.Values.{unbound}
 use Rattle.runs.specs.Found.{Tabled}
 
--- over the log that the rows describe, with now at its end, so many values and no variable bound, the job leads from 0 to the end
-pub record EndTold (job : List ℕ) (domain : ℕ) (rows : List ℕ) (end : ℕ) (answer : Bool) : Type 0 where
-  pub each : (w : World) → Tabled w rows (unbound domain) end → (x : Walk) → Stands job 0 (ofWalk x) → (answer ≡ true) ↔ Leads w x 0 end end
+-- over the log that the rows describe, with now at its end, so many values and no variable bound, the job leads from 0 to the end; "A job's own `?T` .. keeps its own
+-- position", and those inside a `<` have this reading
+pub record EndTold (job : List ℕ) (domain reading : ℕ) (rows : List ℕ) (end : ℕ) (answer : Bool) : Type 0 where
+  pub each : (w : World) → Tabled w rows (unbound domain 0 reading) end → (x : Walk) → Stands job 0 (ofWalk x) → (answer ≡ true) ↔ Leads w x 0 end end
 
 -- the actions that the job asks for there by the signs that may, bit a for action a
-pub record AskTold (may : ℕ → Bool) (job : List ℕ) (domain : ℕ) (rows : List ℕ) (end asked : ℕ) : Type 0 where
-  pub each : (w : World) → Tabled w rows (unbound domain) end → (x : Walk) → Stands job 0 (ofWalk x) → (a : ℕ) → a < actionLimit
+pub record AskTold (may : ℕ → Bool) (job : List ℕ) (domain reading : ℕ) (rows : List ℕ) (end asked : ℕ) : Type 0 where
+  pub each : (w : World) → Tabled w rows (unbound domain 0 reading) end → (x : Walk) → Stands job 0 (ofWalk x) → (a : ℕ) → a < actionLimit
       → (on asked a ≡ true) ↔ AsksAt may w 0 x 0 end a

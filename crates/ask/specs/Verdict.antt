@@ -44,9 +44,10 @@ pub record SoundTest (bytes : List ℕ) : Type 0 where
   pub counts : Counts
   pub accepted : Accepted (textRows true testKind bytes counts)
 
--- the verdict over the log that the rows are of, if nothing refuses the question about it
-pub record TestTold (bytes : List ℕ) (domain : ℕ) (rows : List ℕ) (then now : ℕ) (answer : Bool) : Type 0 where
-  pub each : (s : Subject) → countsOf s .domain ≡ domain → Accepted (askRows testKind s bytes then now) → Describes (worldOf s) rows → TestJudged s bytes then now (some answer)
+-- the verdict over the log that the rows are of, with so many values and this reading, if nothing refuses the question about it
+pub record TestTold (bytes : List ℕ) (domain reading : ℕ) (rows : List ℕ) (then now : ℕ) (answer : Bool) : Type 0 where
+  pub each : (s : Subject) → countsOf s .domain ≡ domain → s .setting .reading ≡ reading → Accepted (askRows testKind s bytes then now) → Describes (worldOf s) rows
+      → TestJudged s bytes then now (some answer)
 
 -- the number and the verdict that a call gives
 abbrev pub VerdictAnswered : Subject → List ℕ → ℕ → ℕ → ℕ → Option Bool → Type 0

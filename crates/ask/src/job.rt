@@ -3,6 +3,7 @@
 ghost use Rattle.meaning.specs.Lengths.{allows};
 ghost use Rattle.runs.specs.Found.{WalkHere};
 ghost use Rattle.ask.specs.Asked.{EndTold, AskTold};
+use evaluator::STEP;
 use evaluator::run;
 use grammar::ends::ENDS_ROOM;
 use positions::PositionSet;
@@ -13,14 +14,15 @@ pub fn ended(
     job: &[u8],
     ends: &[u8; ENDS_ROOM],
     domain: usize,
+    reading: usize,
     rows: &[u64; ROWS],
     end: usize,
 ) -> bool
     requires { ⌜ WalkHere (now job) (now ends) 0 ⌝ }
-    ensures { λ r. ⌜ EndTold (now (job .entry)) domain (now (rows .entry)) end r ⌝ }
+    ensures { λ r. ⌜ EndTold (now (job .entry)) domain reading (now (rows .entry)) end r ⌝ }
 {
     let front = PositionSet::at(0);
-    let reached = run::walk(job, ends, domain, front, end, rows);
+    let reached = run::walk(job, ends, domain, STEP, reading, front, end, rows);
     reached.has(end)
 }
 
@@ -29,14 +31,15 @@ pub fn asked(
     job: &[u8],
     ends: &[u8; ENDS_ROOM],
     domain: usize,
+    reading: usize,
     rows: &[u64; ROWS],
     end: usize,
     follow: &[u8; ENDS_ROOM],
     left: usize,
 ) -> u64
     requires { ⌜ WalkHere (now job) (now ends) 0 ⌝ }
-    ensures { λ r. ⌜ AskTold (allows (now (follow .entry)) left) (now (job .entry)) domain (now (rows .entry)) end r ⌝ }
+    ensures { λ r. ⌜ AskTold (allows (now (follow .entry)) left) (now (job .entry)) domain reading (now (rows .entry)) end r ⌝ }
 {
     let front = PositionSet::at(0);
-    run::asks(job, ends, domain, front, end, rows, follow, left)
+    run::asks(job, ends, domain, reading, front, end, rows, follow, left)
 }

@@ -62,7 +62,8 @@ pub fn reach(
             let counts = s.counts;
             let domain = counts.domain;
             let from = PositionSet::at(then);
-            let found = run::walk(walk, &ends, domain, from, now, &rows);
+            let reading = s.reading;
+            let found = run::walk(walk, &ends, domain, reading, reading, from, now, &rows);
             let set = found.word();
             let count = found.count();
             let earliest = found.earliest();
@@ -76,14 +77,21 @@ pub fn reach(
 }
 
 // Whether a test is true at `then`, with this now, over the log that the rows are of: for whoever asks more than one test of it, and has passed every check.
-pub fn true_at(test: &[u8], domain: usize, rows: &[u64; ROWS], then: usize, now: usize) -> bool
+pub fn true_at(
+    test: &[u8],
+    domain: usize,
+    reading: usize,
+    rows: &[u64; ROWS],
+    then: usize,
+    now: usize,
+) -> bool
     requires { ⌜ Verdict.SoundTest (test .now) ⌝ }
-    ensures { λ r. ⌜ Verdict.TestTold (test .entry .now) domain (rows .entry .now) then now r ⌝ }
+    ensures { λ r. ⌜ Verdict.TestTold (test .entry .now) domain reading (rows .entry .now) then now r ⌝ }
 {
     let mut ends = [0u8; ENDS_ROOM];
     fill_ends(test, &mut ends);
     let among = PositionSet::at(then);
-    let kept = run::test(test, &ends, domain, among, now, rows);
+    let kept = run::test(test, &ends, domain, reading, among, now, rows);
     kept.has(then)
 }
 
@@ -96,7 +104,8 @@ pub fn judged(s: Setting, masks: &[u32], log: &[u8], test: &[u8], then: usize, n
     transpose(s, masks, log, &mut rows);
     let counts = s.counts;
     let domain = counts.domain;
-    true_at(test, domain, &rows, then, now)
+    let reading = s.reading;
+    true_at(test, domain, reading, &rows, then, now)
 }
 
 // Whether a test is true at `then`, with this now.

@@ -48,13 +48,13 @@ module _ {s : Subject} {test rows : List ℕ} {then now : ℕ} (ready : Ready s 
     asked : Accepted (askRows testKind s test then now)
     asked = nothing-refuses testKind s test then now (ready .sound) fits (timely ready .0) (timely ready .1)
 
-    pub byte-yes : TestTold test (countsOf s .domain) rows then now true → ByteTold s test then now 1
+    pub byte-yes : TestTold test (countsOf s .domain) (s .setting .reading) rows then now true → ByteTold s test then now 1
     byte-yes t =
-        record { answer = Yes; answered = inr (record { none = refl; accepted = asked; right = t .each s refl asked (ready .described) }); told = refl }
+        record { answer = Yes; answered = inr (record { none = refl; accepted = asked; right = t .each s refl refl asked (ready .described) }); told = refl }
 
-    pub byte-no : TestTold test (countsOf s .domain) rows then now false → ByteTold s test then now 0
+    pub byte-no : TestTold test (countsOf s .domain) (s .setting .reading) rows then now false → ByteTold s test then now 0
     byte-no t =
-        record { answer = No; answered = inr (record { none = refl; accepted = asked; right = t .each s refl asked (ready .described) }); told = refl }
+        record { answer = No; answered = inr (record { none = refl; accepted = asked; right = t .each s refl refl asked (ready .described) }); told = refl }
 
 -- The same of the test that stands at a place of the text, where the first LF from there on is found: its stretch is told, and the next one stands behind the LF.
 pub stretch-told : {s : Setting} {text rows : List ℕ} {at end then now byte : ℕ} → FirstLf text at end → ByteFound s (stretch text at end) rows then now byte

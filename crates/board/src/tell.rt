@@ -39,7 +39,8 @@ fn one(s: Setting, text: &[u8], at: usize, rows: &[u64; ROWS], then: usize, now:
         }
         Check::Sound => {
             let domain = counts.domain;
-            let yes = true_at(test, domain, rows, then, now);
+            let reading = s.reading;
+            let yes = true_at(test, domain, reading, rows, then, now);
             let told = if yes { YES } else { NO };
             Told { byte: told, next }
         }

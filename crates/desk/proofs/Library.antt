@@ -41,7 +41,7 @@ module _ (cartons : ℕ) (masks log : List ℕ) (right : BadCartons cartons → 
 
   -- the library's rows, of the theory and of the log
   abbrev theory : List {1} Row
-  theory = theoryRows (settingOf cartons (cartons + 1) 0 0) masks
+  theory = theoryRows (settingOf cartons (cartons + 1) 0 0 0) masks
 
   abbrev logged : List {1} Row
   logged = logRows (deskSubject cartons masks log)
@@ -51,7 +51,9 @@ module _ (cartons : ℕ) (masks log : List ℕ) (right : BadCartons cartons → 
   sound =
       let most = few in
       passes
-      (⊎-elim (⊎-elim (⊎-elim (λ h. omega arith) (⊎-elim (λ h. omega arith) (λ h. omega arith))) (λ h. omega arith)) (λ other. other (labels .table)))
+      (⊎-elim
+      (⊎-elim (⊎-elim (⊎-elim (λ h. omega arith) (⊎-elim (λ h. omega arith) (λ h. omega arith))) (λ h. omega arith)) (λ h. omega arith))
+      (λ other. other (labels .table)))
       (passes
       (⊎-elim
       (λ lacks. off-on (on-none (lacks .fluent)) (lacks .named))

@@ -35,7 +35,7 @@ tableRoom = stride * (cartonLimit + 1)
 
 -- what the library is asked of: no label is out at the start
 abbrev pub deskSubject : ℕ → List ℕ → List ℕ → Subject
-deskSubject cartons masks log = subjectOf (settingOf cartons (cartons + 1) 0 0) masks log
+deskSubject cartons masks log = subjectOf (settingOf cartons (cartons + 1) 0 0 0) masks log
 
 -- the lowest label whose fluent is off, 0 where none is
 abbrev pub lowestOff : ℕ → ℕ → ℕ

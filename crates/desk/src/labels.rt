@@ -41,14 +41,18 @@ pub(crate) fn bad_label(cartons: usize, label: usize) -> bool
 // Counts and start: a fluent for each label, none of them on, and no rule that could have a variable.
 pub(crate) fn setting(cartons: usize) -> Setting
     requires { ⌜ cartons ≤ cartonLimit ⌝ }
-    ensures { λ r. ⌜ r ≡ settingOf cartons (cartons + 1) 0 0 ⌝ }
+    ensures { λ r. ⌜ r ≡ settingOf cartons (cartons + 1) 0 0 0 ⌝ }
 {
     let counts = Counts {
         fluents: cartons,
         actions: cartons + 1,
         domain: 0,
     };
-    Setting { counts, start: 0 }
+    Setting {
+        counts,
+        start: 0,
+        reading: 0,
+    }
 }
 
 // The table, in the front of the room: a print needs the lower labels and puts its own, the void drops all.

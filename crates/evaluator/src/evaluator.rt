@@ -8,10 +8,13 @@ ghost use Rattle.positions.specs.Positions.{holds};
 ghost use Rattle.runs.specs.Found.{WalkHere, TestHere};
 ghost use Rattle.runs.specs.Run.{WalkKept, TestKept, HereKept};
 ghost use Rattle.runs.specs.Slots.{StarsTo};
+use crate::readings::next_turn;
+use crate::readings::renew;
 use crate::slots::clear;
 use crate::slots::forget;
 use crate::slots::keep;
 use crate::slots::kept;
+use crate::values::inside;
 use crate::values::rebound;
 use crate::values::turns;
 use crate::values::wide;
@@ -165,7 +168,7 @@ fn some_walk(
     found
 }
 
-// The positions of a set where the test of the `?` at a place is true. Each position is its own now, so that the test is asked once at it.
+// The positions of a set where the test of the `?` at a place is true. The test is asked once at a position: where each is its own now one by one, and else all together.
 fn here(
     text: &[u8],
     ends: &[u8; ENDS_ROOM],
@@ -180,16 +183,21 @@ fn here(
     ensures { λ r. ⌜ HereKept (text .entry .now) at (rows .entry .now) (vars .entry .now) now (slots .entry .now) (slots .exit .now) (holds among) (holds r) ⌝ }
 {
     let part = at + 1;
+    let end = second(ends, at);
     let mut held = kept(slots, at);
     let denied = kept(slots, part);
     let asked = held.join(denied);
     let mut left = among.without(asked);
     while !left.is_empty() {
-        let own = left.earliest();
-        let one = PositionSet::at(own);
-        let there = test(text, ends, part, one, own, rows, vars, slots);
+        let next = next_turn(left, now, vars);
+        let own = next.own;
+        let these = next.these;
+        let inner = inside(vars);
+        renew(slots, part, end, vars);
+        let there = test(text, ends, part, these, own, rows, &inner, slots);
+        renew(slots, part, end, vars);
         held = held.join(there);
-        left = left.without(one);
+        left = left.without(these);
     }
     let all = asked.join(among);
     let rest = all.without(held);

@@ -5,6 +5,7 @@ ghost use Rattle.meaning.specs.Lengths.{allows};
 ghost use Rattle.positions.specs.Positions.{holds};
 ghost use Rattle.runs.specs.Values.{unbound};
 ghost use Rattle.runs.specs.Found.{WalkHere, TestHere, WalkFound, TestFound, AskFound};
+use crate::STEP;
 use crate::asks;
 use crate::evaluator;
 use crate::values::end_of;
@@ -48,17 +49,19 @@ pub fn walk(
     text: &[u8],
     ends: &[u8; ENDS_ROOM],
     domain: usize,
+    own: usize,
+    inner: usize,
     from: PositionSet,
     now: usize,
     rows: &[u64; ROWS],
 ) -> PositionSet
     requires { ⌜ WalkHere (text .now) (ends .now) 0 ⌝ }
-    ensures { λ r. ⌜ WalkFound (text .entry .now) 0 false (rows .entry .now) (unbound domain) now (holds from) (holds r) ⌝ }
+    ensures { λ r. ⌜ WalkFound (text .entry .now) 0 false (rows .entry .now) (unbound domain own inner) now (holds from) (holds r) ⌝ }
 {
     if keeps(text, ends) {
-        return walk_keeping(text, ends, domain, from, now, rows);
+        return walk_keeping(text, ends, domain, own, inner, from, now, rows);
     }
-    let vars = none_bound(domain);
+    let vars = none_bound(domain, own, inner);
     let mut none = [0u64; 0];
     evaluator::walk(text, ends, 0, from, now, false, rows, &vars, &mut none)
 }
@@ -67,14 +70,16 @@ fn walk_keeping(
     text: &[u8],
     ends: &[u8; ENDS_ROOM],
     domain: usize,
+    own: usize,
+    inner: usize,
     from: PositionSet,
     now: usize,
     rows: &[u64; ROWS],
 ) -> PositionSet
     requires { ⌜ WalkHere (text .now) (ends .now) 0 ⌝ }
-    ensures { λ r. ⌜ WalkFound (text .entry .now) 0 false (rows .entry .now) (unbound domain) now (holds from) (holds r) ⌝ }
+    ensures { λ r. ⌜ WalkFound (text .entry .now) 0 false (rows .entry .now) (unbound domain own inner) now (holds from) (holds r) ⌝ }
 {
-    let vars = none_bound(domain);
+    let vars = none_bound(domain, own, inner);
     let mut slots = [0u64; ENDS_ROOM];
     evaluator::walk(text, ends, 0, from, now, false, rows, &vars, &mut slots)
 }
@@ -84,17 +89,18 @@ pub fn test(
     text: &[u8],
     ends: &[u8; ENDS_ROOM],
     domain: usize,
+    reading: usize,
     among: PositionSet,
     now: usize,
     rows: &[u64; ROWS],
 ) -> PositionSet
     requires { ⌜ TestHere (text .now) (ends .now) 0 ⌝ }
-    ensures { λ r. ⌜ TestFound (text .entry .now) 0 (rows .entry .now) (unbound domain) now (holds among) (holds r) ⌝ }
+    ensures { λ r. ⌜ TestFound (text .entry .now) 0 (rows .entry .now) (unbound domain reading reading) now (holds among) (holds r) ⌝ }
 {
     if keeps(text, ends) {
-        return test_keeping(text, ends, domain, among, now, rows);
+        return test_keeping(text, ends, domain, reading, among, now, rows);
     }
-    let vars = none_bound(domain);
+    let vars = none_bound(domain, reading, reading);
     let mut none = [0u64; 0];
     evaluator::test(text, ends, 0, among, now, rows, &vars, &mut none)
 }
@@ -103,14 +109,15 @@ fn test_keeping(
     text: &[u8],
     ends: &[u8; ENDS_ROOM],
     domain: usize,
+    reading: usize,
     among: PositionSet,
     now: usize,
     rows: &[u64; ROWS],
 ) -> PositionSet
     requires { ⌜ TestHere (text .now) (ends .now) 0 ⌝ }
-    ensures { λ r. ⌜ TestFound (text .entry .now) 0 (rows .entry .now) (unbound domain) now (holds among) (holds r) ⌝ }
+    ensures { λ r. ⌜ TestFound (text .entry .now) 0 (rows .entry .now) (unbound domain reading reading) now (holds among) (holds r) ⌝ }
 {
-    let vars = none_bound(domain);
+    let vars = none_bound(domain, reading, reading);
     let mut slots = [0u64; ENDS_ROOM];
     evaluator::test(text, ends, 0, among, now, rows, &vars, &mut slots)
 }
@@ -120,6 +127,7 @@ pub fn asks(
     text: &[u8],
     ends: &[u8; ENDS_ROOM],
     domain: usize,
+    reading: usize,
     from: PositionSet,
     end: usize,
     rows: &[u64; ROWS],
@@ -127,12 +135,12 @@ pub fn asks(
     left: usize,
 ) -> u64
     requires { ⌜ WalkHere (text .now) (ends .now) 0 ⌝ }
-    ensures { λ r. ⌜ AskFound (allows (follow .entry .now) left) (text .entry .now) 0 (rows .entry .now) (unbound domain) end (holds from) r ⌝ }
+    ensures { λ r. ⌜ AskFound (allows (follow .entry .now) left) (text .entry .now) 0 (rows .entry .now) (unbound domain 0 reading) end (holds from) r ⌝ }
 {
     if keeps(text, ends) {
-        return asks_keeping(text, ends, domain, from, end, rows, follow, left);
+        return asks_keeping(text, ends, domain, reading, from, end, rows, follow, left);
     }
-    let vars = none_bound(domain);
+    let vars = none_bound(domain, STEP, reading);
     let mut none = [0u64; 0];
     let pass = asks::onward(
         text,
@@ -153,6 +161,7 @@ fn asks_keeping(
     text: &[u8],
     ends: &[u8; ENDS_ROOM],
     domain: usize,
+    reading: usize,
     from: PositionSet,
     end: usize,
     rows: &[u64; ROWS],
@@ -160,9 +169,9 @@ fn asks_keeping(
     left: usize,
 ) -> u64
     requires { ⌜ WalkHere (text .now) (ends .now) 0 ⌝ }
-    ensures { λ r. ⌜ AskFound (allows (follow .entry .now) left) (text .entry .now) 0 (rows .entry .now) (unbound domain) end (holds from) r ⌝ }
+    ensures { λ r. ⌜ AskFound (allows (follow .entry .now) left) (text .entry .now) 0 (rows .entry .now) (unbound domain 0 reading) end (holds from) r ⌝ }
 {
-    let vars = none_bound(domain);
+    let vars = none_bound(domain, STEP, reading);
     let mut slots = [0u64; ENDS_ROOM];
     let pass = asks::onward(
         text,

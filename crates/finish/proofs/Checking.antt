@@ -62,7 +62,7 @@ module _ (s : Subject) (job : List ℕ) where
   module _ (world : Accepted (worldRows s)) where
     -- 6 to 9, and 13
     pub job-refused : {N : ℕ} → RefusedBy (ruleRows true jobKind job (countsOf s)) N → RefusedBy (nextRows s job) N
-    job-refused r = refused-second (worldRows s) Job-rows world (rest-refused (λ h. not-first world (inl h)) r)
+    job-refused r = refused-second (worldRows s) Job-rows world (rest-refused (λ h. not-first world (inl (inl h))) r)
 
     pub job-accepted : Accepted (ruleRows true jobKind job (countsOf s)) → Accepted (nextRows s job)
     job-accepted sound = accepted-both (worldRows s) Job-rows world (not-rest sound)

@@ -10,7 +10,7 @@ use lib.ListN.{length}
 use lib.Seq.{append-snoc}
 use Rattle.laws.specs.Bit.{on}
 use Rattle.meaning.specs.Limits.{actionLimit, moreLimit}
-use Rattle.meaning.specs.Theory.{World, Possible, relog}
+use Rattle.meaning.specs.Theory.{World, asJob, Possible, relog}
 use Rattle.meaning.specs.Rule.{Walk, backward, walkText}
 use Rattle.meaning.specs.Asks.{AsksAt}
 use Rattle.meaning.specs.Lengths.{allows, Reaching, Measured}
@@ -32,7 +32,7 @@ measured-allows w x ons offs before follow onward reach measured tried a rest sh
 -- nor does it where one more action has been taken
 pub allows-grown : (w : World) (x : Walk) (follow : List ℕ) (b : ℕ) → b < w .actions → Possible (w .masks b) (stands w) → Allows w x follow → Allows (grown w b) x follow
 allows-grown w x follow b known able allow tried a rest short c =
-    subst (λ (l : List ℕ). AsksAt (allows follow (length rest)) (relog w l) 0 x 0 (length l) a) (sym (append-snoc (w .log) b tried))
+    subst (λ (l : List ℕ). AsksAt (allows follow (length rest)) (relog (asJob w) l) 0 x 0 (length l) a) (sym (append-snoc (w .log) b tried))
     (allow (b ∷ tried) a rest short (completes-more w x b (tried ++ a ∷ rest) .1 (known, able, c)))
 
 -- so what may come next can be taken, and no action left out begins a rest of such a length that completes the job
@@ -43,14 +43,14 @@ next-tries w x follow left actions short allow next =
       possible = λ a h. let u = next a .0 h in (u .0, u .1);
       leaves = λ a h rest e c.
           let u = completes-more w x a rest .0 c in
-          let asked = subst (λ (l : List ℕ). AsksAt (allows follow (length rest)) (relog w l) 0 x 0 (length l) a) (append-nil (w .log)) (allow [] a rest (omega arith) c) in
-          off-on h (next a .1 (u .0, u .1, subst (λ (k : ℕ). AsksAt (allows follow k) w 0 x 0 (length (w .log)) a) e asked));
+          let asked = subst (λ (l : List ℕ). AsksAt (allows follow (length rest)) (relog (asJob w) l) 0 x 0 (length l) a) (append-nil (w .log)) (allow [] a rest (omega arith) c) in
+          off-on h (next a .1 (u .0, u .1, subst (λ (k : ℕ). AsksAt (allows follow k) (asJob w) 0 x 0 (length (w .log)) a) e asked));
     }
 
 -- where every sign may ask
 pub begin-come : (may : ℕ → Bool) (w : World) (x : Walk) (actions : ℕ) → ((i : ℕ) → i < 0 + length (walkText x) → may i ≡ true) → MayBegin may w x actions → MayCome w x actions
 begin-come may w x actions all next a =
-    let same = all-ask may w 0 x all 0 (length (w .log)) a in (
+    let same = all-ask may (asJob w) 0 x all 0 (length (w .log)) a in (
       λ h. let u = next a .0 h in (u .0, u .1, same .0 (u .2)),
       λ h. next a .1 (h .0, h .1, same .1 (h .2)),
     )
@@ -58,7 +58,7 @@ begin-come may w x actions all next a =
 -- the word of those that are possible and of those that the job asks for
 pub asked-next : (may : ℕ → Bool) (s : Subject) (x : Walk) (state able asked : ℕ) → countsOf s .actions ≤ actionLimit
     → state ≡ stands (worldOf s) → Doable (countsOf s .actions) (s .masks) state able
-    → ((a : ℕ) → a < actionLimit → (on asked a ≡ true) ↔ AsksAt may (worldOf s) 0 x 0 (length (s .log)) a)
+    → ((a : ℕ) → a < actionLimit → (on asked a ≡ true) ↔ AsksAt may (asJob (worldOf s)) 0 x 0 (length (s .log)) a)
     → MayBegin may (worldOf s) x (bitAnd able asked)
 asked-next may s x state able asked few e d asks a = (
   λ h.

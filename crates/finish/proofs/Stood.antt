@@ -13,7 +13,7 @@ use Rattle.laws.proofs.Truth.{off-on, or-iff}
 use Rattle.laws.proofs.On.{on-none, on-high}
 use Rattle.laws.proofs.Bitwise.{on-or}
 use Rattle.meaning.specs.Limits.{actionLimit}
-use Rattle.meaning.specs.Theory.{stride}
+use Rattle.meaning.specs.Theory.{asJob, stride}
 use Rattle.meaning.specs.Rule.{Walk, plain}
 use Rattle.meaning.specs.StandIn.{among, NamesNone, Decides, Idle, StandsIn}
 use Rattle.meaning.proofs.StandIn.{stand-in-leads, stand-in-able}
@@ -37,7 +37,7 @@ stand-in-completes s masks x unnamed idle a b quiet none h = record {
       let long : length (log ++ b ∷ rest) ≡ length (log ++ a ∷ rest) = simp length-append in
       record {
         able = stand-in-able w unnamed idle quiet (w .actions) a b h _ rest (c .able);
-        done = rw (← long) (stand-in-leads w unnamed idle quiet x none a b h log rest _ _ _ (c .done));
+        done = rw (← long) (stand-in-leads (asJob w) unnamed idle quiet x none a b h log rest _ _ _ (c .done));
       };
 }
 

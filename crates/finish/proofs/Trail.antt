@@ -15,13 +15,14 @@ use Rattle.laws.specs.Bit.{on}
 use Rattle.laws.proofs.Truth.{and-iff}
 use Rattle.laws.proofs.Bitwise.{on-and}
 use Rattle.meaning.specs.Limits.{logLimit}
-use Rattle.meaning.specs.Theory.{World, Possible, Masks, after, run, stateAt}
+use Rattle.meaning.specs.Theory.{nowStep, World, Possible, Masks, after, asJob, run, stateAt}
 use Rattle.meaning.specs.Rule.{Walk}
 use Rattle.meaning.specs.Leads.{Leads}
 use Rattle.meaning.proofs.Theory.{run-append, state-end}
 use Rattle.meaning.specs.Lengths.{allows}
 use Rattle.theory.specs.Subject.{subjectOf, tableMasks, worldOf}
 use Rattle.tables.specs.Tables.{Describes, Toggled}
+use Rattle.tables.proofs.Transposed.{described-owning}
 use Rattle.tables.proofs.Toggled.{toggled-on, toggled-off}
 use Rattle.theory.specs.declared.Setting.{Setting}
 use Rattle.finish.specs.Search.{stands, Ended, FirstOf, NoneOf, Allows, Tries}
@@ -74,14 +75,19 @@ module _ (s : Setting) (masks job : List ℕ) where
 
   -- a sequence of no action
   pub leaf-told : (trail rows : List ℕ) (n : ℕ) (answer : Bool) → length (take n trail) ≡ n → length (take n trail) ≤ logLimit → Describes (At (take n trail)) rows
-      → EndTold job (s .counts .domain) rows n answer → LengthTold s masks job trail n 0 trail answer
-  leaf-told trail rows n answer full short described told = record { kept = refl; each = λ x j. go x answer (whole x (told .each (At (take n trail)) tabled x (j .there))) }
+      → EndTold job (s .counts .domain) (s .reading) rows n answer → LengthTold s masks job trail n 0 trail answer
+  leaf-told trail rows n answer full short described told = record { kept = refl; each = λ x j. go x answer (whole x (told .each (asJob (At (take n trail))) tabled x (j .there))) }
     where
-      tabled : Tabled (At (take n trail)) rows (unbound (s .counts .domain)) n
-      tabled = record { described = described; logged = omega (arith, full); room = short; bears = bears-none (At (take n trail)) refl }
+      tabled : Tabled (asJob (At (take n trail))) rows (unbound (s .counts .domain) 0 (s .reading)) n
+      tabled = record {
+        described = described-owning (At (take n trail)) nowStep described;
+        logged = omega (arith, full);
+        room = short;
+        bears = bears-none (asJob (At (take n trail))) refl 0 (s .reading) refl refl;
+      }
 
-      whole : (x : Walk) → (answer ≡ true) ↔ Leads (At (take n trail)) x 0 n n → (answer ≡ true) ↔ Ended (At (take n trail)) x (take n trail)
-      whole x = subst (λ (e : ℕ). (answer ≡ true) ↔ Leads (At (take n trail)) x 0 e e) (sym full)
+      whole : (x : Walk) → (answer ≡ true) ↔ Leads (asJob (At (take n trail))) x 0 n n → (answer ≡ true) ↔ Ended (At (take n trail)) x (take n trail)
+      whole x = subst (λ (e : ℕ). (answer ≡ true) ↔ Leads (asJob (At (take n trail))) x 0 e e) (sym full)
 
       go : (x : Walk) (b : Bool) → (b ≡ true) ↔ Ended (At (take n trail)) x (take n trail) → OneLength b 0 (At (take n trail)) x []
       go x true e = first-empty (At (take n trail)) x (e .0 refl)

@@ -8,7 +8,7 @@ use lib.ListN.{length, drop, take}
 use Rattle.refusal.specs.Number.{numberOf}
 use Rattle.laws.specs.Bit.{on}
 use Rattle.meaning.specs.Limits.{logLimit}
-use Rattle.meaning.specs.Theory.{World, Possible}
+use Rattle.meaning.specs.Theory.{World, Possible, asJob}
 use Rattle.meaning.specs.Rule.{Walk}
 use Rattle.meaning.specs.Asks.{AsksAt}
 use Rattle.meaning.specs.Finish.{First, None}
@@ -30,7 +30,7 @@ pub record Doable (actions : ℕ) (masks : List ℕ) (state asked : ℕ) : Type 
 -- the actions that may come next by the signs that may ask, bit a for action a
 abbrev pub MayBegin : (ℕ → Bool) → World → Walk → ℕ → Type 0
 MayBegin may w x actions =
-    (a : ℕ) → (on actions a ≡ true) ↔ ((a < w .actions) × Possible (w .masks a) (stands w) × AsksAt may w 0 x 0 (length (w .log)) a)
+    (a : ℕ) → (on actions a ≡ true) ↔ ((a < w .actions) × Possible (w .masks a) (stands w) × AsksAt may (asJob w) 0 x 0 (length (w .log)) a)
 
 pub record NextTold (may : ℕ → Bool) (s : Subject) (job : List ℕ) (actions : ℕ) : Type 0 where
   pub able : (a : ℕ) → on actions a ≡ true → (a < countsOf s .actions) × Possible (tableMasks (s .masks) a) (stands (worldOf s))

@@ -7,7 +7,7 @@ use Prim.Native.Nat.{ℕ, _<_}
 use lib.ListN.{length}
 use Rattle.refusal.specs.Number.{numberOf}
 use Rattle.laws.specs.Bit.{on}
-use Rattle.meaning.specs.Theory.{World, Possible}
+use Rattle.meaning.specs.Theory.{World, Possible, asJob}
 use Rattle.meaning.specs.Rule.{Walk, ofWalk, jobKind, Opens}
 use Rattle.meaning.specs.Asks.{Asks}
 use Rattle.meaning.specs.Refusal.{Row, Answered}
@@ -18,10 +18,10 @@ use Rattle.finish.specs.Search.{stands}
 use Rattle.finish.specs.declared.NextAnswer.{NextAnswer}
 use Rattle.finish.specs.declared.NextAnswer.the-variants.{Refused, Actions}
 
--- bit a is on exactly where a is an action of the theory, possible at the log's end, and asked for there by the job
+-- bit a is on exactly where a is an action of the theory, possible at the log's end, and asked for there by the job, with its own tests read as a job's are
 abbrev pub MayCome : World → Walk → ℕ → Type 0
 MayCome w x actions =
-    (a : ℕ) → (on actions a ≡ true) ↔ ((a < w .actions) × Possible (w .masks a) (stands w) × Asks w x 0 (length (w .log)) a)
+    (a : ℕ) → (on actions a ≡ true) ↔ ((a < w .actions) × Possible (w .masks a) (stands w) × Asks (asJob w) x 0 (length (w .log)) a)
 
 -- the refusal's number, 0 for none, and the actions, none on a refusal
 abbrev pub numberGiven : NextAnswer → ℕ

@@ -7,7 +7,7 @@ use Prim.Native.Nat.{ℕ, _≤_, _<_}
 use lib.ListN.{length}
 use Rattle.laws.specs.Bit.{on}
 use Rattle.meaning.specs.Limits.{moreLimit}
-use Rattle.meaning.specs.Theory.{World, Possible, relog, run}
+use Rattle.meaning.specs.Theory.{World, Possible, asJob, relog, run}
 use Rattle.meaning.specs.Rule.{Walk}
 use Rattle.meaning.specs.Leads.{Leads}
 use Rattle.meaning.specs.Finish.{Able, Smaller}
@@ -24,7 +24,7 @@ grown w a = relog w (w .log ++ a ∷ [])
 
 -- over this log, with now at its end, the job leads from 0 to the end
 abbrev pub Ended : World → Walk → List ℕ → Type 0
-Ended w job l = Leads (relog w l) job 0 (length l) (length l)
+Ended w job l = Leads (relog (asJob w) l) job 0 (length l) (length l)
 
 -- `Finishes` without its two bounds on the length
 pub record Completes (w : World) (job : Walk) (ending : List ℕ) : Type 0 where
@@ -45,7 +45,7 @@ NoneOf k w job = (ending : List ℕ) → length ending ≡ k → Completes w job
 abbrev pub Allows : World → Walk → List ℕ → Type 0
 Allows w job follow =
     (tried : List ℕ) (a : ℕ) (rest : List ℕ) → length rest ≤ moreLimit → Completes w job (tried ++ a ∷ rest)
-    → AsksAt (allows follow (length rest)) (relog w (w .log ++ tried)) 0 job 0 (length (w .log ++ tried)) a
+    → AsksAt (allows follow (length rest)) (relog (asJob w) (w .log ++ tried)) 0 job 0 (length (w .log ++ tried)) a
 
 -- What the search asks of the answer "which actions to try next, with so many to follow", a number with bit a for action a: each can be taken, and no action left out
 -- could begin a rest of that length that completes the job.

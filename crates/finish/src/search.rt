@@ -47,7 +47,7 @@ fn complete(
 {
     let counts = s.counts;
     if left == 0 {
-        return job::ended(job, ends, counts.domain, rows, n);
+        return job::ended(job, ends, counts.domain, s.reading, rows, n);
     }
     let rest = left - 1;
     let next = n + 1;
@@ -108,7 +108,7 @@ pub(crate) fn first(
     let mut rows = [0u64; ROWS];
     transpose(s, masks, &trail[..n], &mut rows);
     let counts = s.counts;
-    if job::ended(job, ends, counts.domain, &rows, n) {
+    if job::ended(job, ends, counts.domain, s.reading, &rows, n) {
         return Found::At(0);
     }
     let most = longest(n, more);

@@ -47,7 +47,7 @@ pub(crate) fn tries(
 {
     let end = log.len();
     let counts = s.counts;
-    let asked = job::asked(job, ends, counts.domain, rows, end, follow, left);
+    let asked = job::asked(job, ends, counts.domain, s.reading, rows, end, follow, left);
     let able = doable(counts.actions, masks, state);
     able & asked
 }

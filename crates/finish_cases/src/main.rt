@@ -5,6 +5,7 @@ mod show;
 use show::run;
 use show::run_into;
 use show::run_over;
+use show::run_read;
 use show::run_table;
 
 // The theory of document 01's examples.
@@ -338,6 +339,37 @@ fn depends() {
     run_table(2, 3, 0, &CLAUSES, b"", b"n", 6);
 }
 
+// Document 02, Q-7: "A job's own `?T`, outside every `<`, keeps its own position"; one inside a `<` has the outer now under `end`.
+fn readings() {
+    io::write_all(1, b"tests that see the whole log\n");
+    run_read(2, 3, 0, &LABELS, b"\x00\x01", b";a00;?<a011a01", 0);
+    run_read(2, 3, 1, &LABELS, b"\x00\x01", b";a00;?<a011a01", 0);
+    run_read(
+        2,
+        3,
+        0,
+        &LABELS,
+        b"\x00\x01",
+        b";a00;a01?<-;a00;?<a011a011",
+        0,
+    );
+    run_read(
+        2,
+        3,
+        1,
+        &LABELS,
+        b"\x00\x01",
+        b";a00;a01?<-;a00;?<a011a011",
+        0,
+    );
+    run_read(2, 3, 0, &LABELS, b"\x00\x01", b";a00;?<-;a00?<a0111a01", 0);
+    run_read(2, 3, 1, &LABELS, b"\x00\x01", b";a00;?<-;a00?<a0111a01", 0);
+    run_read(2, 3, 0, &LABELS, b"", b";n;n?<-;a00;?<a011a011", 6);
+    run_read(2, 3, 1, &LABELS, b"", b";n;n?<-;a00;?<a011a011", 6);
+    io::write_all(1, b"tests that see the whole log: refusal 3\n");
+    run_read(2, 3, 2, &LABELS, b"", b"n", 6);
+}
+
 fn main() {
     labels();
     lengths();
@@ -355,4 +387,5 @@ fn main() {
     sums();
     bad_variables();
     depends();
+    readings();
 }

@@ -52,10 +52,11 @@ fn answer_of(answer: FinishAnswer, out: &[u8]) {
     io::write_all(1, b"]\n");
 }
 
-// The call, and its answer as a line, where a variable has so many values, 0 for a call without variables.
+// The call, and its answer as a line, where a variable has so many values, 0 for a call without variables, and tests inside a walk are read so, 0 for `step`.
 fn call(
     counts: Counts,
     start: u32,
+    reading: usize,
     masks: &[u32],
     log: &[u8],
     job: &[u8],
@@ -73,8 +74,18 @@ fn call(
             two(domain as u8);
         }
     }
+    if 0 < reading {
+        if reading < 100 {
+            io::write_all(1, b" reading=");
+            two(reading as u8);
+        }
+    }
     io::write_all(1, b": ");
-    let s = Setting { counts, start };
+    let s = Setting {
+        counts,
+        start,
+        reading,
+    };
     let answer = finish(s, masks, log, job, more, out);
     answer_of(answer, out);
 }
@@ -122,7 +133,7 @@ pub(crate) fn run_into(
     };
     let mut table = [0u32; TABLE_ROOM];
     let n = widen(four, &mut table);
-    call(counts, start, &table[..n], log, job, more, out);
+    call(counts, start, 0, &table[..n], log, job, more, out);
 }
 
 // The same with room for the longest sequence; without variables, and with them.
@@ -162,6 +173,27 @@ pub(crate) fn run_over(
     );
 }
 
+// The same where tests inside a walk are read so.
+pub(crate) fn run_read(
+    fluents: usize,
+    actions: usize,
+    reading: usize,
+    four: &[u32],
+    log: &[u8],
+    job: &[u8],
+    more: usize,
+) {
+    let counts = Counts {
+        fluents,
+        actions,
+        domain: 0,
+    };
+    let mut out = [b'.'; 6];
+    let mut table = [0u32; TABLE_ROOM];
+    let n = widen(four, &mut table);
+    call(counts, 0, reading, &table[..n], log, job, more, &mut out);
+}
+
 // A call with a table as it stands.
 pub(crate) fn run_table(
     fluents: usize,
@@ -178,5 +210,5 @@ pub(crate) fn run_table(
         domain: 0,
     };
     let mut out = [b'.'; 6];
-    call(counts, start, masks, log, job, more, &mut out);
+    call(counts, start, 0, masks, log, job, more, &mut out);
 }

@@ -1,6 +1,6 @@
--- If a walk with no backward sign goes on past k, then the step at k is one that it asks for: what leaves an action out of the search only where it
+-- If a job, which has no backward sign, goes on past k, then the step at k is one that it asks for: what leaves an action out of the search only where it
 -- cannot finish. What is asked for at k hangs on the first k steps alone. Knows the table of walks.
-use mathlib.Core.Path.{_≡_, refl, sym}
+use mathlib.Core.Path.{_≡_, refl}
 use mathlib.Core.Logic.{_⊎_, inl, inr, _↔_}
 use mathlib.Core.Bool.{false, true≢false}
 use mathlib.Core.List.{List, _∷_, _++_, append-assoc}
@@ -9,13 +9,14 @@ use Prim.Native.Nat.{ℕ, _+_, _≤_, _<_}
 use native.Mathlib.Decide.{decLt}
 use native.Mathlib.Omega.{arith}
 use lib.ListN.{length, length-append}
-use Rattle.meaning.specs.Theory.{World, bind, numberIn, relog, stepAt}
+use Rattle.meaning.specs.Theory.{World, asJob, bind, numberIn, relog, stepAt}
 use Rattle.meaning.specs.Rule.{Walk, act, undo, next, prev, seq, alt, star, check, conv, pick, backward}
 use Rattle.meaning.specs.Leads.{Rel, Leads, Then, Or, Many, Pick, stay, link}
+use Rattle.meaning.specs.Stands.{Agree}
 use Rattle.meaning.specs.Asks.{Asks}
 use Rattle.meaning.specs.Finish.{Finishes}
 use Rattle.meaning.proofs.Theory.{getElem-seam}
-use Rattle.meaning.proofs.Cut.{Agree, agree-append, leads-cut}
+use Rattle.meaning.proofs.Cut.{agree-append, agree-turned, leads-cut}
 use Rattle.meaning.proofs.Chain.{chain-map}
 use Rattle.meaning.proofs.Onward.{Movable, neither, movable}
 
@@ -48,7 +49,7 @@ or-waits f g p q n (inr h) low high = inr (g p q n h low high)
 pick-waits : {k d : ℕ} {r : ℕ → Rel} {x : ℕ → ℕ → Type 0} → ((i : ℕ) → Waits k (r i) (x i)) → Waits k (Pick d r) (λ p. (i : ℕ) × (i < d) × x i p)
 pick-waits f p q n h low high = (h .0, h .1, f (h .0) p q n (h .2) low high)
 
-waits : (w : World) (x : Walk) → backward x ≡ false → (k a : ℕ) → stepAt w k ≡ some a → Waits k (Leads w x) (λ p. Asks w x p k a)
+waits : (w : World) (x : Walk) → backward x ≡ false → (k a : ℕ) → stepAt w k ≡ some a → Waits k (Leads (asJob w) x) (λ p. Asks (asJob w) x p k a)
 unfolding Leads backward Asks
 waits w (act c) b k a s = λ p q n h low high.
     let here : p ≡ k = omega arith in
@@ -68,7 +69,8 @@ waits w (check t) b k a s = λ p q n h low high. absurd (omega arith)
 waits w (conv x) b k a s = absurd (true≢false b)
 waits w (pick v x) b k a s = pick-waits (λ i. waits (bind w v i) x b k a s)
 
-pub asks : (w : World) (x : Walk) (p q n k a : ℕ) → backward x ≡ false → Leads w x p q n → p ≤ k → k < q → stepAt w k ≡ some a → Asks w x p k a
+pub asks : (w : World) (x : Walk) (p q n k a : ℕ) → backward x ≡ false → Leads (asJob w) x p q n → p ≤ k → k < q → stepAt w k ≡ some a
+    → Asks (asJob w) x p k a
 asks w x p q n k a b h low high s = waits w x b k a s p q n h low high
 
 -- what is asked for at k hangs on the first k steps
@@ -89,18 +91,18 @@ asks-kept w (conv x) l l′ p k a e h = h
 asks-kept w (pick v x) l l′ p k a e h = (h .0, h .1, asks-kept (bind w v (h .0)) x l l′ p k a e (h .2))
 
 pub asks-cut : (w : World) (x : Walk) (l l′ : List ℕ) (p k a : ℕ) → Agree l l′ k → Asks (relog w l) x p k a ↔ Asks (relog w l′) x p k a
-asks-cut w x l l′ p k a e = (asks-kept w x l l′ p k a e, asks-kept w x l′ l p k a (sym e))
+asks-cut w x l l′ p k a e = (asks-kept w x l l′ p k a e, asks-kept w x l′ l p k a (agree-turned l l′ k e))
 
 -- so an action that a job takes next, whatever follows, is one that it asks for at the end of the log that stands
-pub next-asked : (w : World) (x : Walk) (l rest : List ℕ) (a p q n : ℕ) → backward x ≡ false → Leads (relog w (l ++ a ∷ rest)) x p q n
-    → p ≤ length l → length l < q → Asks (relog w l) x p (length l) a
+pub next-asked : (w : World) (x : Walk) (l rest : List ℕ) (a p q n : ℕ) → backward x ≡ false → Leads (relog (asJob w) (l ++ a ∷ rest)) x p q n
+    → p ≤ length l → length l < q → Asks (relog (asJob w) l) x p (length l) a
 next-asked w x l rest a p q n b h low high =
-    asks-kept w x (l ++ a ∷ rest) l p (length l) a (agree-append l (a ∷ rest) (length l) (omega arith))
+    asks-kept (asJob w) x (l ++ a ∷ rest) l p (length l) a (agree-append l (a ∷ rest) (length l) (omega arith))
     (asks (relog w (l ++ a ∷ rest)) x p q n (length l) a b h low high (getElem-seam l a rest))
 
 -- and of the sequences that finish, none that begins as tried goes on with an action not asked for
 pub finish-asks : (w : World) (job : Walk) (more : ℕ) (tried : List ℕ) (a : ℕ) (rest : List ℕ) → backward job ≡ false
-    → Finishes w job more (tried ++ a ∷ rest) → Asks (relog w (w .log ++ tried)) job 0 (length (w .log ++ tried)) a
+    → Finishes w job more (tried ++ a ∷ rest) → Asks (relog (asJob w) (w .log ++ tried)) job 0 (length (w .log ++ tried)) a
 finish-asks w job more tried a rest b f =
     let end = length (w .log) + length (tried ++ a ∷ rest) in
     next-asked w job (w .log ++ tried) rest a 0 end end b (rw append-assoc (f .done)) (omega arith) (simp length-append (omega arith))

@@ -1,4 +1,4 @@
--- If a walk with no backward sign goes on past k, then a sign of it asks for the step at k behind which it can be as long as it is. Knows the table of walks.
+-- If a job, which has no backward sign, goes on past k, then a sign of it asks for the step at k behind which it can be as long as it is. Knows the table of walks.
 use mathlib.Core.Path.{_≡_, refl, sym, ap, subst, _∙_}
 use mathlib.Core.Logic.{_⊎_, inl, inr, _↔_, ⊎-elim}
 use mathlib.Core.Bool.{Bool, true, false, true≢false}
@@ -10,15 +10,16 @@ use native.Mathlib.Omega.{arith}
 use lib.ListN.{length, getElem?, length-append}
 use Rattle.laws.specs.Bit.{on}
 use Rattle.meaning.specs.Limits.{moreLimit}
-use Rattle.meaning.specs.Theory.{World, bind, numberIn, relog, run, stateAt, stepAt}
+use Rattle.meaning.specs.Theory.{World, asJob, bind, numberIn, relog, run, stateAt, stepAt}
 use Rattle.meaning.specs.Rule.{plain, plus, Walk, act, undo, next, prev, seq, alt, star, check, conv, pick, backward, walkText}
 use Rattle.meaning.specs.Leads.{Rel, Leads, Then, Many, stay, link}
 use Rattle.meaning.specs.Finish.{Able}
+use Rattle.meaning.specs.Stands.{Agree}
 use Rattle.meaning.specs.Asks.{Asks, AsksAt}
 use Rattle.meaning.specs.Lengths.{Turning, Reaching, Inside, Measured, allows}
 use Rattle.meaning.proofs.Theory.{getElem-seam}
 use Rattle.meaning.proofs.Turning.{later-turning}
-use Rattle.meaning.proofs.Cut.{Agree, agree-append, leads-cut}
+use Rattle.meaning.proofs.Cut.{agree-append, leads-cut}
 use Rattle.meaning.proofs.Chain.{chain-map}
 use Rattle.meaning.proofs.Onward.{Onward, Movable, neither, onward, movable, many-onward}
 use Rattle.meaning.proofs.Measured.{Counted, counted, many-counted}
@@ -103,7 +104,7 @@ many-waits k t base behind rounds {r = r} {x = x} late most move up count start 
 
 waits : (w : World) (x : Walk) → backward x ≡ false → (ons offs : ℕ) (follow : List ℕ) (base k t a : ℕ) → base ≤ k → t ≤ moreLimit → stepAt w k ≡ some a
     → ((p : ℕ) → base ≤ p → Turning ons offs (stateAt w p)) → (at behind before : ℕ) → Measured ons offs follow at x behind before
-    → Waits k t (Leads w x) behind (λ p. AsksAt (allows follow t) w at x p k a)
+    → Waits k t (Leads (asJob w) x) behind (λ p. AsksAt (allows follow t) (asJob w) at x p k a)
 unfolding Leads backward AsksAt Measured
 waits w (act c) b ons offs f base k t a late most s turn at behind before h = λ p q n l step low high e same.
     let here : p ≡ k = omega (arith, step .onward) in
@@ -118,7 +119,7 @@ waits w next b ons offs f base k t a late most s turn at behind before h = λ p 
 waits w prev b ons offs f base k t a late most s turn at behind before h = absurd (true≢false b)
 waits w (seq v x) b ons offs f base k t a late most s turn at behind before h =
     let e = neither (backward v) (backward x) b in
-    then-waits k t base behind (h .0) late most (movable w v (e .0)) (onward w x (e .1)) (counted w x (e .1) ons offs f base turn _ behind (h .0) (h .1))
+    then-waits k t base behind (h .0) late most (movable w v (e .0)) (onward (asJob w) x (e .1)) (counted (asJob w) x (e .1) ons offs f base turn _ behind (h .0) (h .1))
     (waits w v (e .0) ons offs f base k t a late most s turn _ (h .0) before (h .2)) (waits w x (e .1) ons offs f base k t a late most s turn _ behind (h .0) (h .1))
 waits w (alt v x) b ons offs f base k t a late most s turn at behind before h = λ p q n l step low high e same.
     let n′ = neither (backward v) (backward x) b in
@@ -127,7 +128,7 @@ waits w (alt v x) b ons offs f base k t a late most s turn at behind before h = 
     (λ u. inr (waits w x (n′ .1) ons offs f base k t a late most s turn _ behind before (h .1) p q n l u low high e same))
     step
 waits w (star x) b ons offs f base k t a late most s turn at behind before h =
-    many-waits k t base behind (h .0) late most (movable w x b) (onward w x b) (counted w x b ons offs f base turn _ (h .0) (h .0) (h .2)) (h .1)
+    many-waits k t base behind (h .0) late most (movable w x b) (onward (asJob w) x b) (counted (asJob w) x b ons offs f base turn _ (h .0) (h .0) (h .2)) (h .1)
     (waits w x b ons offs f base k t a late most s turn _ (h .0) (h .0) (h .2))
 waits w (check c) b ons offs f base k t a late most s turn at behind before h = λ p q n l step low high e same. absurd (omega (arith, step .0))
 waits w (conv x) b ons offs f base k t a late most s turn at behind before h = absurd (true≢false b)
@@ -139,8 +140,8 @@ waits w (pick v x) b ons offs f base k t a late most s turn at behind before h =
 pub next-asked-at : (w : World) (x : Walk) (ons offs : ℕ) (follow : List ℕ) (before : ℕ) (tried : List ℕ) (a : ℕ) (rest : List ℕ) → backward x ≡ false
     → Reaching (w .actions) (w .masks) (run (w .masks) (w .start) (w .log)) ons offs → Measured ons offs follow 0 x 1 before
     → Able (w .actions) (w .masks) (run (w .masks) (w .start) (w .log)) (tried ++ a ∷ rest) → length rest ≤ moreLimit
-    → Leads (relog w (w .log ++ (tried ++ a ∷ rest))) x 0 (length (w .log ++ (tried ++ a ∷ rest))) (length (w .log ++ (tried ++ a ∷ rest)))
-    → AsksAt (allows follow (length rest)) (relog w (w .log ++ tried)) 0 x 0 (length (w .log ++ tried)) a
+    → Leads (relog (asJob w) (w .log ++ (tried ++ a ∷ rest))) x 0 (length (w .log ++ (tried ++ a ∷ rest))) (length (w .log ++ (tried ++ a ∷ rest)))
+    → AsksAt (allows follow (length rest)) (relog (asJob w) (w .log ++ tried)) 0 x 0 (length (w .log ++ tried)) a
 unfolding on
 next-asked-at w x ons offs follow before tried a rest b reach measured able short h =
     let ending = tried ++ a ∷ rest in
@@ -150,7 +151,7 @@ next-asked-at w x ons offs follow before tried a rest b reach measured able shor
     let long : length (w .log ++ ending) ≡ k + 1 + length rest = ap length whole ∙ simp length-append (omega arith) in
     let here : stepAt (relog w (w .log ++ ending)) k ≡ some a = subst (λ (i : List ℕ). getElem? i k ≡ some a) (sym whole) (getElem-seam l a rest) in
     let base : length (w .log) ≤ k = simp length-append (omega arith) in
-    asks-at-kept (allows follow (length rest)) w 0 x (w .log ++ ending) l 0 k a
+    asks-at-kept (allows follow (length rest)) (asJob w) 0 x (w .log ++ ending) l 0 k a
     (subst (λ (i : List ℕ). Agree i l k) (sym whole) (agree-append l (a ∷ rest) k (omega arith)))
     (waits (relog w (w .log ++ ending)) x b ons offs follow (length (w .log)) k (length rest) a base short here
     (λ p late. later-turning w ending ons offs p reach able late) 0 1 before measured 0 (length (w .log ++ ending)) (length (w .log ++ ending)) 0 h (omega arith) (omega arith) refl (omega arith))

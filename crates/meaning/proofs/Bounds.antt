@@ -1,11 +1,22 @@
--- The paper's Lemma 6: a walk goes from and to positions at most now. Knows the table of walks and nothing of the log's length.
-use Prim.Native.Nat.{ℕ}
+-- The paper's Lemma 6: a walk goes from and to positions at most now, and a test inside it has a now between its position and the walk's. Knows the table of walks
+-- and nothing of the log's length.
+use mathlib.Core.Path.{_≡_, refl}
+use Prim.Native.Nat.{ℕ, _≤_}
 use native.Mathlib.Omega.{arith}
 use mathlib.Core.Logic.{inl, inr}
-use Rattle.meaning.specs.Theory.{World, bind}
+use Rattle.meaning.specs.Theory.{Reading, nowStep, nowEnd, World, bind}
 use Rattle.meaning.specs.Rule.{Walk, act, undo, next, prev, seq, alt, star, check, conv, pick}
-use Rattle.meaning.specs.Leads.{Rel, Leads, Back, Then, Or, Pick}
+use Rattle.meaning.specs.Leads.{Rel, Leads, Back, Then, Or, Pick, ownNow}
 use Rattle.meaning.proofs.Chain.{Within, many-within}
+
+-- whichever reading, a test's now is from its position up to the walk's now
+pub own-within : (w : World) (p n : ℕ) → p ≤ n → (p ≤ ownNow w p n) × (ownNow w p n ≤ n)
+unfolding ownNow
+own-within w p n h = go (w .own) refl
+  where
+    go : (r : Reading) → w .own ≡ r → (p ≤ ownNow w p n) × (ownNow w p n ≤ n)
+    go nowStep e = rw e (omega arith, omega arith)
+    go nowEnd e = rw e (omega arith, omega arith)
 
 then-within : {r s : Rel} → Within r → Within s → Within (Then r s)
 then-within f g p q n h = (f p (h .0) n (h .1) .0, g (h .0) q n (h .2) .1)

@@ -14,12 +14,12 @@ use Rattle.laws.specs.Text.{bytes}
 use Rattle.laws.proofs.On.{on-high}
 use Rattle.laws.proofs.Gather.{on-gather, gather-lt}
 use Rattle.meaning.specs.Limits.{places}
-use Rattle.meaning.specs.Theory.{World, acts, after, run}
+use Rattle.meaning.specs.Theory.{World, nowStep, nowEnd, acts, after, run}
 use Rattle.meaning.specs.Rule.{Walk, Rule, Kind, testKind, walkKind, jobKind, ofTest, ofWalk, text, walkText}
 use Rattle.meaning.specs.Leads.{Leads, Holds}
 use Rattle.meaning.specs.Reach.{ReachedAs}
 use Rattle.meaning.specs.Normal.{normal, normalRule}
-use Rattle.meaning.specs.Cases.{CaseVerdict, yes, no, CaseEnding, sequence, refusal, Case, reach, verdict, form, finish, cases, twoValues, threeValues, jobWith}
+use Rattle.meaning.specs.Cases.{CaseVerdict, yes, no, CaseEnding, sequence, refusal, Case, reach, verdict, form, finish, cases, twoValues, threeValues, stepCases, endCases, jobWith}
 use Rattle.meaning.specs.Cases.{SpelledAs, OfWalk, OfTest, IsSo, Finishing, CaseSays, AllSay, effectCases, shown, walked}
 use Rattle.meaning.proofs.Bounds.{leads-within}
 use Rattle.laws.proofs.Count.{count-cut}
@@ -113,23 +113,23 @@ module _ (w : World) (more : ℕ) where
       let is = and-tells (eq-tells number 11) Iff·rfl .0 e in
       (is .0, nothing-true w x more (is .1))
 
-right : ℕ → Case → Bool
+right : (List ℕ → World) → Case → Bool
 unfolding spelled reaches told ends readWalk readTest readNumber readVariable normal walkText same
-right domain (reach log walk t n set count earliest) = spelled (reaches (jobWith domain log) t n set count earliest) (readRule walkKind (bytes walk))
-right domain (verdict log test t n answer) = spelled (told (jobWith domain log) t n answer) (readRule testKind (bytes test))
-right domain (form kind rule normal) = spelled (λ x. same (text (normalRule x)) (bytes normal)) (readRule kind (bytes rule))
-right domain (finish log job more ending) = spelled (ends (jobWith domain log) more ending) (readRule jobKind (bytes job))
+right of (reach log walk t n set count earliest) = spelled (reaches (of log) t n set count earliest) (readRule walkKind (bytes walk))
+right of (verdict log test t n answer) = spelled (told (of log) t n answer) (readRule testKind (bytes test))
+right of (form kind rule normal) = spelled (λ x. same (text (normalRule x)) (bytes normal)) (readRule kind (bytes rule))
+right of (finish log job more ending) = spelled (ends (of log) more ending) (readRule jobKind (bytes job))
 
-right-says : (domain : ℕ) (c : Case) → right domain c ≡ true → CaseSays domain c
+right-says : (of : List ℕ → World) (c : Case) → right of c ≡ true → CaseSays of c
 unfolding right
-right-says domain (reach log walk t n set count earliest) =
-    spelled-true walkKind (bytes walk) (reaches (jobWith domain log) t n set count earliest) (reaches-true (jobWith domain log) t n set count earliest)
-right-says domain (verdict log test t n answer) =
-    spelled-true testKind (bytes test) (told (jobWith domain log) t n answer) (told-true (jobWith domain log) t n answer)
-right-says domain (form kind rule normal) =
+right-says of (reach log walk t n set count earliest) =
+    spelled-true walkKind (bytes walk) (reaches (of log) t n set count earliest) (reaches-true (of log) t n set count earliest)
+right-says of (verdict log test t n answer) =
+    spelled-true testKind (bytes test) (told (of log) t n answer) (told-true (of log) t n answer)
+right-says of (form kind rule normal) =
     spelled-true kind (bytes rule) (λ x. same (text (normalRule x)) (bytes normal)) (λ x. same-tells (text (normalRule x)) (bytes normal) .0)
-right-says domain (finish log job more ending) =
-    spelled-true jobKind (bytes job) (ends (jobWith domain log) more ending) (ends-true (jobWith domain log) more ending)
+right-says of (finish log job more ending) =
+    spelled-true jobKind (bytes job) (ends (of log) more ending) (ends-true (of log) more ending)
 
 -- A list: all its cases are right, or the first wrong one with its number, counted from 1. (The refusal shows what it computes to as long as that takes
 -- under 200,000 steps; the 23 cases of document 01 take some 133,000, for what is found has a name and is computed once.)
@@ -138,56 +138,81 @@ data Checked : Type 0 where
   allRight : Checked
   wrong : ℕ → Case → Checked
 
-check : ℕ → ℕ → List Case → Checked
-check domain k [] = allRight
-check domain k (c ∷ rest) = elim (right domain c) [ true ↦ check domain (suc k) rest | false ↦ wrong k c ]
+check : (List ℕ → World) → ℕ → List Case → Checked
+check of k [] = allRight
+check of k (c ∷ rest) = elim (right of c) [ true ↦ check of (suc k) rest | false ↦ wrong k c ]
 
-all-say : (domain k : ℕ) (cs : List Case) → check domain k cs ≡ allRight → AllSay domain cs
+all-say : (of : List ℕ → World) (k : ℕ) (cs : List Case) → check of k cs ≡ allRight → AllSay of cs
 unfolding check
-all-say domain k [] e = tt
-all-say domain k (c ∷ rest) e = go (right domain c) refl e (all-say domain (suc k) rest)
+all-say of k [] e = tt
+all-say of k (c ∷ rest) e = go (right of c) refl e (all-say of (suc k) rest)
   where
-    go : (b : Bool) → right domain c ≡ b → _≡_ {A = Checked} (elim b [ true ↦ check domain (suc k) rest | false ↦ wrong k c ]) allRight
-        → (check domain (suc k) rest ≡ allRight → AllSay domain rest) → CaseSays domain c × AllSay domain rest
-    go true r e further = (right-says domain c r, further e)
+    go : (b : Bool) → right of c ≡ b → _≡_ {A = Checked} (elim b [ true ↦ check of (suc k) rest | false ↦ wrong k c ]) allRight
+        → (check of (suc k) rest ≡ allRight → AllSay of rest) → CaseSays of c × AllSay of rest
+    go true r e further = (right-says of c r, further e)
     go false r e further = let z : _≡_ {A = ℕ} 0 1 = cc in absurd (omega arith)
 
 found : Checked
 unfolding check right
-found = check 0 1 cases
+found = check (jobWith 0 nowStep) 1 cases
 
 checked : found ≡ allRight
 unfolding found
 checked = refl
 
-pub all-cases : AllSay 0 cases
+pub all-cases : AllSay (jobWith 0 nowStep) cases
 unfolding found
-all-cases = all-say 0 1 cases checked
+all-cases = all-say (jobWith 0 nowStep) 1 cases checked
 
 -- and those of document 02, Q-2, with two values and with three
 found-two : Checked
 unfolding check right
-found-two = check 2 1 twoValues
+found-two = check (jobWith 2 nowStep) 1 twoValues
 
 checked-two : found-two ≡ allRight
 unfolding found-two
 checked-two = refl
 
-pub two-values : AllSay 2 twoValues
+pub two-values : AllSay (jobWith 2 nowStep) twoValues
 unfolding found-two
-two-values = all-say 2 1 twoValues checked-two
+two-values = all-say (jobWith 2 nowStep) 1 twoValues checked-two
 
 found-three : Checked
 unfolding check right
-found-three = check 3 1 threeValues
+found-three = check (jobWith 3 nowStep) 1 threeValues
 
 checked-three : found-three ≡ allRight
 unfolding found-three
 checked-three = refl
 
-pub three-values : AllSay 3 threeValues
+pub three-values : AllSay (jobWith 3 nowStep) threeValues
 unfolding found-three
-three-values = all-say 3 1 threeValues checked-three
+three-values = all-say (jobWith 3 nowStep) 1 threeValues checked-three
+
+-- those of Q-7, under `step` and under `end`
+found-step : Checked
+unfolding check right
+found-step = check (jobWith 0 nowStep) 1 stepCases
+
+checked-step : found-step ≡ allRight
+unfolding found-step
+checked-step = refl
+
+pub step-cases : AllSay (jobWith 0 nowStep) stepCases
+unfolding found-step
+step-cases = all-say (jobWith 0 nowStep) 1 stepCases checked-step
+
+found-end : Checked
+unfolding check right
+found-end = check (jobWith 0 nowEnd) 1 endCases
+
+checked-end : found-end ≡ allRight
+unfolding found-end
+checked-end = refl
+
+pub end-cases : AllSay (jobWith 0 nowEnd) endCases
+unfolding found-end
+end-cases = all-say (jobWith 0 nowEnd) 1 endCases checked-end
 
 -- and those of Q-6
 pub effect-cases : map walked effectCases ≡ map shown effectCases

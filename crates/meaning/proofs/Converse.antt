@@ -30,7 +30,7 @@ many-exchanged low low′ f p q n = (chain-turn low (λ i j. f i j n .0), chain-
 pick-exchanged : {d : ℕ} {r s : ℕ → Rel} → ((k : ℕ) → Exchanged (r k) (s k)) → Exchanged (Pick d r) (Pick d s)
 pick-exchanged f p q n = (λ h. (h .0, h .1, f (h .0) p q n .0 (h .2)), λ h. (h .0, h .1, f (h .0) p q n .1 (h .2)))
 
--- a test has then and now at the place itself, so it is its own converse
+-- a test stays at its place, whichever now it has, so it is its own converse
 here-turn : (w : World) (x : Truth) (p q n : ℕ) → Here w x p q n → Here w x q p n
 here-turn w x p q n h = subst (λ (k : ℕ). (p ≡ k) × (k ≤ n) × x k (ownNow w k n)) (sym (h .0)) (refl, h .1, h .2)
 

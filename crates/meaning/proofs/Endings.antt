@@ -10,7 +10,7 @@ use lib.Dec.{eqb, leb, ltb}
 use lib.ListN.{length}
 use Rattle.laws.specs.Bit.{on, gather, allBelow}
 use Rattle.meaning.specs.Limits.{logLimit}
-use Rattle.meaning.specs.Theory.{Masks, Possible, World, acts, after, relog, run}
+use Rattle.meaning.specs.Theory.{Masks, Possible, World, acts, after, asJob, relog, run}
 use Rattle.meaning.specs.Rule.{Walk}
 use Rattle.meaning.specs.Finish.{Able, Finishes, Smaller, Before, First, None}
 use Rattle.meaning.proofs.Tells.{Tells, true-tells, false-tells, eq-tells, le-tells, lt-tells, tells-as}
@@ -37,7 +37,7 @@ finishes w job more s =
     let end = length (w .log) + length s in
     leb (length s) more
     && (leb end logLimit
-    && (able (w .actions) (w .masks) (run (w .masks) (w .start) (w .log)) s && leadsGrid (relog w (w .log ++ s)) job end 0 end))
+    && (able (w .actions) (w .masks) (run (w .masks) (w .start) (w .log)) s && leadsGrid (relog (asJob w) (w .log ++ s)) job end 0 end))
 
 finishes-tells : (w : World) (job : Walk) (more : ℕ) (s : List ℕ) → Tells (finishes w job more s) (Finishes w job more s)
 unfolding finishes
@@ -46,7 +46,7 @@ finishes-tells w job more s =
     tells-as
     (and-tells (le-tells (length s) more)
     (and-tells (le-tells end logLimit)
-    (and-tells (able-tells (w .actions) (w .masks) (run (w .masks) (w .start) (w .log)) s) (leads-draws (relog w (w .log ++ s)) job 0 end end))))
+    (and-tells (able-tells (w .actions) (w .masks) (run (w .masks) (w .start) (w .log)) s) (leads-draws (relog (asJob w) (w .log ++ s)) job 0 end end))))
     (λ h. record { short = h .0; fits = h .1 .0; able = h .1 .1 .0; done = h .1 .1 .1 })
     (λ h. (h .short, (h .fits, (h .able, h .done))))
 

@@ -8,7 +8,7 @@ use Prim.Native.Nat.{ℕ, zero, suc, _+_}
 use native.Mathlib.Omega.{arith}
 use lib.Dec.{eqb, leb}
 use Rattle.laws.specs.Bit.{on, gather, allBelow}
-use Rattle.meaning.specs.Theory.{Masks, World, bind, numberIn, acts, after, run, stateAt}
+use Rattle.meaning.specs.Theory.{Masks, World, bind, inside, numberIn, acts, after, run, stateAt}
 use Rattle.meaning.specs.Rule.{Walk, Test, act, undo, next, prev, seq, alt, star, check, conv, pick, always, fluent, neg, both, diamond, exists}
 use Rattle.meaning.specs.Leads.{Rel, Truth, Taken, Step, AnyStep, Here, ownNow, Some, Exists, Leads, Back, Holds}
 use Rattle.meaning.proofs.Chain.{Within}
@@ -170,7 +170,7 @@ unfoldable mutual
   valueOf w (fluent i) = λ n t. on (stateAt w t) (numberIn w i)
   valueOf w (neg x) = notValue (valueOf w x)
   valueOf w (both x y) = bothValue (valueOf w x) (valueOf w y)
-  valueOf w (diamond v x) = someValue (leadsGrid w v) (valueOf w x)
+  valueOf w (diamond v x) = someValue (leadsGrid (inside w) v) (valueOf w x)
   valueOf w (exists v x) = existsValue (w .domain) (λ k. valueOf (bind w v k) x)
 
 -- The evaluator is the meaning
@@ -207,5 +207,5 @@ mutual
   value-gives w (fluent i) = λ t n. Iff·rfl
   value-gives w (neg x) = λ t n. not-tells (value-gives w x t n)
   value-gives w (both x y) = λ t n. and-tells (value-gives w x t n) (value-gives w y t n)
-  value-gives w (diamond v x) = some-gives (leads-within w v) (leads-draws w v) (value-gives w x)
+  value-gives w (diamond v x) = some-gives (leads-within (inside w) v) (leads-draws (inside w) v) (value-gives w x)
   value-gives w (exists v x) = exists-gives (λ k. value-gives (bind w v k) x)

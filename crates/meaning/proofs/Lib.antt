@@ -1,5 +1,6 @@
 pub mod Chain
 pub mod Bounds
+pub mod Readings
 pub mod Converse
 pub mod Finish
 pub mod Refusal

@@ -2,7 +2,7 @@
 use mathlib.Core.Path.{_≡_, refl, ap, ap₂, subst, subst⁻¹, fun-ext}
 use mathlib.Core.Logic.{_↔_}
 use Prim.Native.Nat.{ℕ}
-use Rattle.meaning.specs.Theory.{World, bind}
+use Rattle.meaning.specs.Theory.{World, bind, inside}
 use Rattle.meaning.specs.Rule.{Walk, Test, act, undo, next, prev, seq, alt, star, check, conv, pick, always, fluent, neg, both, diamond, exists}
 use Rattle.meaning.specs.Leads.{Rel, Truth, Leads, Back, Holds, Then, Or, Many, Here, Pick, Not, Both, Some, Exists}
 use Rattle.meaning.specs.Normal.{normal, turned, normalTest}
@@ -40,7 +40,7 @@ mutual
   normal-holds w (fluent i) = refl
   normal-holds w (neg t) = ap Not (normal-holds w t)
   normal-holds w (both t u) = ap₂ Both (normal-holds w t) (normal-holds w u)
-  normal-holds w (diamond x t) = ap₂ Some (normal-leads w x) (normal-holds w t)
+  normal-holds w (diamond x t) = ap₂ Some (normal-leads (inside w) x) (normal-holds w t)
   normal-holds w (exists v t) = ap (Exists (w .domain)) (fun-ext (λ k. normal-holds (bind w v k) t))
 
 -- so at every place

@@ -1,11 +1,11 @@
--- A walk with no backward sign never goes back, so its now may be moved wherever its end does not pass. Knows the table of walks; a test's now is its
--- own position, so no test is looked into.
+-- A walk with no backward sign never goes back, so in a job its now may be moved wherever its end does not pass. Knows the table of walks; a job's own test has
+-- its position as now, so no test is looked into.
 use mathlib.Core.Path.{_≡_, refl}
 use mathlib.Core.Logic.{inl, inr}
 use mathlib.Core.Bool.{Bool, true, false, _||_, true≢false}
 use Prim.Native.Nat.{ℕ, _≤_}
 use native.Mathlib.Omega.{arith}
-use Rattle.meaning.specs.Theory.{World, bind, numberIn}
+use Rattle.meaning.specs.Theory.{World, asJob, bind, numberIn}
 use Rattle.meaning.specs.Rule.{Walk, act, undo, next, prev, seq, alt, star, check, conv, pick, backward}
 use Rattle.meaning.specs.Leads.{Rel, Leads, Step, Then, Or, Many, Pick, ownNow, stay, link}
 use Rattle.meaning.proofs.Bounds.{leads-within}
@@ -77,24 +77,24 @@ onward w (pick v x) b = pick-onward (λ k. onward (bind w v k) x b)
 step-movable : (w : World) (a : ℕ) → Movable (Step w a)
 step-movable w a p q n k h l = record { onward = h .onward; within = l; logged = h .logged; able = h .able }
 
--- and its now may be moved, back to its end and forth as far as one likes
-pub movable : (w : World) (x : Walk) → backward x ≡ false → Movable (Leads w x)
+-- and in a job its now may be moved, back to its end and forth as far as one likes
+pub movable : (w : World) (x : Walk) → backward x ≡ false → Movable (Leads (asJob w) x)
 unfolding Leads backward ownNow
-movable w (act a) b = step-movable w (numberIn w a)
+movable w (act a) b = step-movable (asJob w) (numberIn w a)
 movable w (undo a) b = absurd (true≢false b)
-movable w next b = λ p q n k h l. (h .0, step-movable w (h .0) p q n k (h .1) l)
+movable w next b = λ p q n k h l. (h .0, step-movable (asJob w) (h .0) p q n k (h .1) l)
 movable w prev b = absurd (true≢false b)
 movable w (seq v x) b =
     let e = neither (backward v) (backward x) b in
-    then-movable (onward w x (e .1)) (movable w v (e .0)) (movable w x (e .1))
+    then-movable (onward (asJob w) x (e .1)) (movable w v (e .0)) (movable w x (e .1))
 movable w (alt v x) b =
     let e = neither (backward v) (backward x) b in
     or-movable (movable w v (e .0)) (movable w x (e .1))
-movable w (star x) b = many-movable (onward w x b) (movable w x b)
+movable w (star x) b = many-movable (onward (asJob w) x b) (movable w x b)
 movable w (check t) b = λ p q n k h l. (h .0, omega arith, h .2)
 movable w (conv x) b = absurd (true≢false b)
 movable w (pick v x) b = pick-movable (λ k. movable (bind w v k) x b)
 
 -- shortened: cut at any k that its end does not pass; lengthened: any later now
-pub lengthen : (w : World) (x : Walk) → backward x ≡ false → (p q k n : ℕ) → k ≤ n → Leads w x p q k → Leads w x p q n
-lengthen w x b p q k n l h = movable w x b p q k n h (omega (arith, leads-within w x p q k h))
+pub lengthen : (w : World) (x : Walk) → backward x ≡ false → (p q k n : ℕ) → k ≤ n → Leads (asJob w) x p q k → Leads (asJob w) x p q n
+lengthen w x b p q k n l h = movable w x b p q k n h (omega (arith, leads-within (asJob w) x p q k h))

@@ -4,7 +4,7 @@ use mathlib.Core.Path.{_≡_, refl, sym, ap, ap₂, subst⁻¹, _∙_}
 use mathlib.Core.Logic.{_⊎_, inl, inr}
 use mathlib.Core.Bool.{Bool, true, false, not, _&&_, _||_, cond, true≢false}
 use Prim.Native.Nat.{ℕ, zero, suc, _+_}
-use Rattle.meaning.specs.Theory.{World, Values, varying}
+use Rattle.meaning.specs.Theory.{World, Values, inside, varying}
 use Rattle.meaning.specs.Rule.{Walk, Test, plain, plus, act, undo, next, prev, seq, alt, star, check, conv, pick, always, fluent, neg, both, diamond, exists}
 use Rattle.meaning.specs.Rule.{Variable, isVariable, Name, hasName, isSum, walkFree, testFree, walkVaries, testVaries}
 use Rattle.meaning.specs.Leads.{Leads, Back, Holds, Then, Or, Many, Here, Not, Both, Some, ownNow}
@@ -50,7 +50,7 @@ mutual
   holds-plain w d s (fluent (plus i v)) e = absurd (true≢false e)
   holds-plain w d s (neg t) e = ap Not (holds-plain w d s t e)
   holds-plain w d s (both t u) e = let f = neither (testVaries t) (testVaries u) e in ap₂ Both (holds-plain w d s t (f .0)) (holds-plain w d s u (f .1))
-  holds-plain w d s (diamond x t) e = let f = neither (walkVaries x) (testVaries t) e in ap₂ Some (leads-plain w d s x (f .0)) (holds-plain w d s t (f .1))
+  holds-plain w d s (diamond x t) e = let f = neither (walkVaries x) (testVaries t) e in ap₂ Some (leads-plain (inside w) d s x (f .0)) (holds-plain w d s t (f .1))
   holds-plain w d s (exists v t) e = absurd (true≢false e)
 
 -- Written out, a rule in which no variable stands free has no sign of variables left: it is one of document 01's.

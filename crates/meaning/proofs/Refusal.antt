@@ -1,7 +1,7 @@
 -- Laws of the refusals: the number given is one, none is given beside an acceptance, how a call's checks make either, a line for each row of its list, how two
--- lists, one after the other, are settled, and that an answer is one. What a row says stays shut.
+-- lists, one after the other, are settled, when two lists settle the same, and that an answer is one. What a row says stays shut.
 use mathlib.Core.Path.{_≡_, refl, sym, subst, _∙_}
-use mathlib.Core.Logic.{_⊎_, inl, inr, ⊎-elim}
+use mathlib.Core.Logic.{_⊎_, _↔_, inl, inr, ⊎-elim}
 use mathlib.Core.Bool.{Bool, true, false, cond}
 use mathlib.Core.List.{List, [], _∷_, _++_, cons≢nil}
 use mathlib.Core.Option.{Option}
@@ -85,6 +85,31 @@ behind (row ∷ xs) ys n a (inr h) = behind xs ys n (a .1) (h .1)
 
 pub refused-behind : (xs ys : List {1} Row) {N : ℕ} → Accepted xs → Refused (xs ++ ys) N → Refused ys N
 refused-behind xs ys {N} a r = record { first = behind xs ys N a (r .first) }
+
+-- Two lists whose rows have the same numbers and hold together: they give the same number, and both accept or neither. So what one call answers the other may, where
+-- what is right for the one is right for the other.
+abbrev pub Alike : List {1} Row → List {1} Row → Type 0
+Alike [] [] = Unit {0}
+Alike [] (row ∷ rows) = ⊥
+Alike (row ∷ rows) [] = ⊥
+Alike (row ∷ rows) (row′ ∷ rows′) = (row .number ≡ row′ .number) × (row .given ↔ row′ .given) × Alike rows rows′
+
+alike-first : (xs ys : List {1} Row) (n : ℕ) → Alike xs ys → FirstHolding xs n → FirstHolding ys n
+alike-first [] [] n a h = h
+alike-first [] (y ∷ ys) n a h = absurd a
+alike-first (x ∷ xs) [] n a h = absurd a
+alike-first (x ∷ xs) (y ∷ ys) n a (inl h) = inl (h .0 ∙ a .0, a .1 .0 (h .1))
+alike-first (x ∷ xs) (y ∷ ys) n a (inr h) = inr (λ k. h .0 (a .1 .1 k), alike-first xs ys n (a .2) (h .1))
+
+alike-accepted : (xs ys : List {1} Row) → Alike xs ys → Accepted xs → Accepted ys
+alike-accepted [] [] a h = h
+alike-accepted [] (y ∷ ys) a h = absurd a
+alike-accepted (x ∷ xs) [] a h = absurd a
+alike-accepted (x ∷ xs) (y ∷ ys) a h = (λ k. h .0 (a .1 .1 k), alike-accepted xs ys (a .2) (h .1))
+
+pub answered-as : (xs ys : List {1} Row) {N : ℕ} {B R R′ : Type 0} → Alike xs ys → (Accepted xs → R → R′) → Answered xs N B R → Answered ys N B R′
+answered-as xs ys {N} a right (inl r) = inl (record { refused = record { first = alike-first xs ys N a (r .refused .first) }; blank = r .blank })
+answered-as xs ys {N} a right (inr r) = inr (record { none = r .none; accepted = alike-accepted xs ys a (r .accepted); right = right (r .accepted) (r .right) })
 
 -- Two answers of one call have one number, and both are refused or both are right: what follows from either follows.
 pub answered-determined :

@@ -2,7 +2,7 @@
 use mathlib.Core.Path.{_≡_}
 use mathlib.Core.Logic.{_↔_, inl, inr, Iff·rfl}
 use Prim.Native.Nat.{ℕ, suc}
-use Rattle.meaning.specs.Theory.{World, bind}
+use Rattle.meaning.specs.Theory.{World, bind, inside}
 use Rattle.meaning.specs.Rule.{Walk, Test, act, undo, next, prev, seq, alt, star, check, conv, pick, always, fluent, neg, both, diamond, exists}
 use Rattle.meaning.specs.Leads.{Rel, Truth, Leads, Back, Holds, Then, Or, Many, Here, Pick, Both, Some, Exists}
 use Rattle.meaning.specs.Written.{spelledOut, testOut}
@@ -86,5 +86,5 @@ mutual
   holds-out d w (fluent i) e = λ t n. Iff·rfl
   holds-out d w (neg x) e = λ t n. (λ h y. h (holds-out d w x e t n .1 y), λ h y. h (holds-out d w x e t n .0 y))
   holds-out d w (both x y) e = both-true (holds-out d w x e) (holds-out d w y e)
-  holds-out d w (diamond v x) e = some-true (leads-out d w v e) (holds-out d w x e)
+  holds-out d w (diamond v x) e = some-true (leads-out d (inside w) v e) (holds-out d w x e)
   holds-out d w (exists v x) e = λ t n. join (exists-true (λ k. holds-out d (bind w v k) x e) t n) (exists-is-choice w v d e (testOut d x) t n)

@@ -13,7 +13,7 @@ use Rattle.laws.specs.Bit.{on}
 use Rattle.laws.proofs.On.{on-high}
 use Rattle.laws.proofs.Truth.{same-truth, off-on}
 use Rattle.meaning.specs.Limits.{fluentLimit}
-use Rattle.meaning.specs.Theory.{Clause, Masks, Possible, Acts, acts, clausePuts, clauseDrops, World, bind, after, relog, run, stateAt, stepAt}
+use Rattle.meaning.specs.Theory.{Clause, Masks, Possible, Acts, acts, clausePuts, clauseDrops, World, asJob, bind, inside, after, relog, run, stateAt, stepAt}
 use Rattle.meaning.specs.Rule.{Variable, Name, plain, plus, Walk, Test, act, undo, next, prev, seq, alt, star, check, conv, pick, always, fluent, neg, both, diamond, exists, walkNames, testNames}
 use Rattle.meaning.specs.Leads.{Leads, Holds, Step, AnyStep, ownNow}
 use Rattle.meaning.specs.Finish.{Able, Smaller, First}
@@ -22,7 +22,7 @@ use Rattle.meaning.proofs.Effects.{acts-tells, after-bit}
 use Rattle.meaning.proofs.Theory.{after-lt}
 use Rattle.meaning.proofs.Bounds.{leads-within}
 use Rattle.meaning.proofs.Converse.{back-exchanged}
-use Rattle.meaning.proofs.Cut.{Kept, Stays, then-kept, or-kept, many-kept, some-stays, turned-kept}
+use Rattle.meaning.proofs.Cut.{Kept, Stays, then-kept, or-kept, many-kept, here-kept, some-stays, turned-kept}
 
 -- at every now
 abbrev Any : ℕ → Type 0
@@ -31,13 +31,19 @@ Any n = Unit {0}
 -- What a walk that the two functions give 0 can tell of a world, another world has as well: the steps of its actions, that there is a step, its fluents.
 record Told (f g : Name → ℕ) (w w′ : World) : Type 0 where
   values : w .domain ≡ w′ .domain
+  own : w .own ≡ w′ .own
+  inner : w .inner ≡ w′ .inner
   step : (a : ℕ) → f (plain a) ≡ 0 → Kept Any (Step w a) (Step w′ a)
   any : Kept Any (AnyStep w) (AnyStep w′)
   shown : (i : ℕ) → g (plain i) ≡ 0 → (t : ℕ) → on (stateAt w t) i ≡ on (stateAt w′ t) i
 
 -- the values of variables have no part in it
 told-bound : {f g : Name → ℕ} {w w′ : World} (v : Variable) (k : ℕ) → Told f g w w′ → Told f g (bind w v k) (bind w′ v k)
-told-bound v k u = record { values = u .values; step = u .step; any = u .any; shown = u .shown }
+told-bound v k u = record { values = u .values; own = u .own; inner = u .inner; step = u .step; any = u .any; shown = u .shown }
+
+-- and what a test sees inside a `<` is told as well
+told-inside : {f g : Name → ℕ} {w w′ : World} → Told f g w w′ → Told f g (inside w) (inside w′)
+told-inside u = record { values = u .values; own = u .inner; inner = u .inner; step = u .step; any = u .any; shown = u .shown }
 
 -- neither of two parts names a thing
 apart : (m n : ℕ) → max m n ≡ 0 → (m ≡ 0) × (n ≡ 0)
@@ -61,7 +67,7 @@ module _ (f g : Name → ℕ) (no-act : (n : ℕ) (v : Variable) → f (plus n v
         let e = apart (walkNames f g x) (walkNames f g y) z in
         or-kept (leads-told w w′ x (e .0) u v) (leads-told w w′ y (e .1) u v)
     leads-told w w′ (star x) z u v = many-kept (leads-told w w′ x z u v)
-    leads-told w w′ (check t) z u v = λ p q n e h. (h .0, h .1, holds-told w w′ t z u v p p e (omega arith) (h .2))
+    leads-told w w′ (check t) z u v = here-kept w w′ (λ p n. rw (u .own)) (λ m n l e. e) (holds-told w w′ t z u v)
     leads-told w w′ (conv x) z u v = turned-kept (back-exchanged w x) (back-exchanged w′ x) (leads-told w w′ x z u v)
     leads-told w w′ (pick y x) z u v = λ p q n e h.
         (h .0, rw (← u .values) (h .1), leads-told (bind w y (h .0)) (bind w′ y (h .0)) x z (told-bound y (h .0) u) (told-bound y (h .0) v) p q n e (h .2))
@@ -76,7 +82,7 @@ module _ (f g : Name → ℕ) (no-act : (n : ℕ) (v : Variable) → f (plus n v
         λ t n e l h. (holds-told w w′ x (d .0) u v t n e l (h .0), holds-told w w′ y (d .1) u v t n e l (h .1))
     holds-told w w′ (diamond x y) z u v =
         let d = apart (walkNames f g x) (testNames f g y) z in
-        some-stays (leads-within w x) (leads-told w w′ x (d .0) u v) (holds-told w w′ y (d .1) u v)
+        some-stays (leads-within (inside w) x) (leads-told (inside w) (inside w′) x (d .0) (told-inside u) (told-inside v)) (holds-told w w′ y (d .1) u v)
     holds-told w w′ (exists y x) z u v = λ t n e l h.
         (h .0, rw (← u .values) (h .1), holds-told (bind w y (h .0)) (bind w′ y (h .0)) x z (told-bound y (h .0) u) (told-bound y (h .0) v) t n e l (h .2))
 
@@ -196,6 +202,8 @@ module _ (w : World) (unnamed idle : ℕ) (quiet : Idle (w .masks) idle) where
       → Told (among unnamed) (among idle) (With log a rest) (With log b rest)
   told a b free alike log rest = record {
     values = refl;
+    own = refl;
+    inner = refl;
     step = λ c z p q n u h. record {
       onward = h .onward;
       within = h .within;
@@ -239,7 +247,8 @@ module _ (w : World) (unnamed idle : ℕ) (quiet : Idle (w .masks) idle) where
             (near-after (w .masks) idle quiet b a state state back (λ i e. refl)) (able .2),
       )
 
-  -- so the first finishing sequence never has an action with a stand-in
+-- so the first finishing sequence never has an action with a stand-in
+module _ (w : World) (unnamed idle : ℕ) (quiet : Idle (w .masks) idle) where
   pub first-without : (x : Walk) → NamesNone unnamed idle x → (a b : ℕ) → StandsIn (w .masks) unnamed idle a b → (more : ℕ) (front rest : List ℕ)
       → First w x more (front ++ b ∷ rest) → ⊥
   first-without x none a b h more front rest f =
@@ -250,12 +259,12 @@ module _ (w : World) (unnamed idle : ℕ) (quiet : Idle (w .masks) idle) where
         short = rw long (g .short);
         fits = rw long (g .fits);
         able = able-swapped front _ (g .able);
-        done = rw (long, ← append-assoc) (stand-in-leads x none a b h (w .log ++ front) rest 0 _ _ (rw append-assoc (g .done)));
+        done = rw (long, ← append-assoc) (stand-in-leads (asJob w) unnamed idle quiet x none a b h (w .log ++ front) rest 0 _ _ (rw append-assoc (g .done)));
       })
       (inr (long, smaller-swapped front))
     where
       able-swapped : (front : List ℕ) (state : ℕ) → Able (w .actions) (w .masks) state (front ++ b ∷ rest) → Able (w .actions) (w .masks) state (front ++ a ∷ rest)
-      able-swapped [] state able = stand-in-able (w .actions) a b h state rest able
+      able-swapped [] state able = stand-in-able w unnamed idle quiet (w .actions) a b h state rest able
       able-swapped (c ∷ front) state able = (able .0, able .1, able-swapped front (after (w .masks c) state) (able .2))
 
       smaller-swapped : (front : List ℕ) → Smaller (front ++ a ∷ rest) (front ++ b ∷ rest)

@@ -1,8 +1,8 @@
 -- Laws of the log and its states: what one step more or other steps later change, and that a state stays within its bits. Knows of an effect only its
 -- size.
-use mathlib.Core.Path.{_≡_, refl, sym, _∙_, ap}
+use mathlib.Core.Path.{_≡_, refl, sym, _∙_, ap, ap₂}
 use mathlib.Core.List.{List, [], _∷_, _++_}
-use mathlib.Core.Option.{none, some}
+use mathlib.Core.Option.{none, some, Option·none-ne-some}
 use Prim.Native.Nat.{ℕ, zero, suc, _+_, _^_, _≤_, _<_}
 use native.Mathlib.Numerals.{add-one}
 use native.Mathlib.Omega.{arith}
@@ -33,6 +33,11 @@ getElem-take zero l p h = absurd (omega arith)
 getElem-take (suc n) [] p h = refl
 getElem-take (suc n) (x ∷ l) zero h = refl
 getElem-take (suc n) (x ∷ l) (suc p) h = getElem-take n l p (omega arith)
+
+pub getElem-append : (l more : List ℕ) (p : ℕ) → p < length l → getElem? (l ++ more) p ≡ getElem? l p
+getElem-append [] more p h = absurd (omega arith)
+getElem-append (x ∷ l) more zero h = refl
+getElem-append (x ∷ l) more (suc p) h = getElem-append l more p (omega arith)
 
 pub getElem-seam : (l : List ℕ) (a : ℕ) (rest : List ℕ) → getElem? (l ++ a ∷ rest) (length l) ≡ some a
 getElem-seam [] a rest = refl
@@ -66,6 +71,17 @@ state-end w = rw take-length
 -- lists that agree in their first n elements agree in fewer
 pub take-below : (l l′ : List ℕ) (p n : ℕ) → p ≤ n → take n l ≡ take n l′ → take p l ≡ take p l′
 take-below l l′ p n h e = sym (take-take p n l h) ∙ ap (take p) e ∙ take-take p n l′ h
+
+-- and lists with the same elements before n do
+pub same-front : (n : ℕ) (l l′ : List ℕ) → ((p : ℕ) → p < n → getElem? l p ≡ getElem? l′ p) → take n l ≡ take n l′
+same-front zero l l′ e = refl
+same-front (suc n) [] [] e = refl
+same-front (suc n) [] (y ∷ l′) e = absurd (Option·none-ne-some y (e 0 (omega arith)))
+same-front (suc n) (x ∷ l) [] e = absurd (Option·none-ne-some x (sym (e 0 (omega arith))))
+same-front (suc n) (x ∷ l) (y ∷ l′) e =
+    let first : some x ≡ some y = e 0 (omega arith) in
+    let head : x ≡ y = cc in
+    ap₂ {C = List ℕ} (λ a b. a ∷ b) head (same-front n l l′ (λ p h. e (suc p) (omega arith)))
 
 -- a position's state depends on the steps before it alone, and a step on itself
 pub state-cut : (w : World) (l l′ : List ℕ) (p n : ℕ) → take n l ≡ take n l′ → p ≤ n → stateAt (relog w l) p ≡ stateAt (relog w l′) p

@@ -6,7 +6,7 @@ use mathlib.Core.Bool.{Bool, true, false, not, _&&_, cond, false≢true}
 use Prim.Native.Nat.{ℕ, zero, suc, _+_, _≤_, _<_}
 use native.Mathlib.Decide.{decLe}
 use native.Mathlib.Omega.{arith}
-use Rattle.meaning.specs.Theory.{World, Values, withValue, standsFor, numberOf, revalue, bind}
+use Rattle.meaning.specs.Theory.{World, Values, withValue, standsFor, numberOf, revalue, bind, inside}
 use Rattle.meaning.specs.Rule.{Walk, Test, act, undo, next, prev, seq, alt, star, check, conv, pick, always, fluent, neg, both, diamond, exists}
 use Rattle.meaning.specs.Rule.{Variable, varV, varW, varX, varY, isVariable, Name, plain, plus, hasName, walkFree, testFree, Rule, freeIn}
 use Rattle.meaning.specs.Refusal.{Unbound}
@@ -77,7 +77,7 @@ mutual
   holds-written w v k (fluent i) = ap (On w) (number-written (w .values) v k i)
   holds-written w v k (neg t) = ap Not (holds-written w v k t)
   holds-written w v k (both t u) = ap₂ Both (holds-written w v k t) (holds-written w v k u)
-  holds-written w v k (diamond x t) = ap₂ Some (leads-written w v k x) (holds-written w v k t)
+  holds-written w v k (diamond x t) = ap₂ Some (leads-written (inside w) v k x) (holds-written w v k t)
   holds-written w v k (exists u t) =
       ap (Exists (w .domain)) (fun-ext (λ j. under Holds w v u k j t (writtenTest v k t) (holds-written (bind w u j) v k t)))
 

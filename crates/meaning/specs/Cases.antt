@@ -1,12 +1,12 @@
 -- Document 01, "Examples on that theory": every row marked P, in the document's order, and what each says about the meaning. A case gives its rule
--- as the document writes it; what it says is said of the rule that this text spells. Then cases of document 02: of Q-2, on the same theory and logs, and of Q-6.
+-- as the document writes it; what it says is said of the rule that this text spells. Then cases of document 02: of Q-2 and of Q-7, on the same theory, and of Q-6.
 use mathlib.Core.Path.{_≡_}
 use mathlib.Core.List.{List, [], _∷_, map}
 use Prim.Native.Nat.{ℕ, _+_}
 use Prim.Native.String.{String}
 use lib.ListN.{getD}
 use Rattle.laws.specs.Text.{bytes}
-use Rattle.meaning.specs.Theory.{Clause, Masks, World, clauseOf, masksOf, noValues, stateAt}
+use Rattle.meaning.specs.Theory.{Clause, Masks, Reading, nowStep, World, clauseOf, masksOf, noValues, stateAt}
 use Rattle.meaning.specs.Four.{plainMasks}
 use Rattle.meaning.specs.Rule.{Walk, Test, Rule, Kind, testKind, walkKind, jobKind, ofTest, ofWalk, Opens, text}
 use Rattle.meaning.specs.Leads.{Holds}
@@ -20,9 +20,9 @@ use Rattle.meaning.specs.Finish.{First, None}
 abbrev pub actions : List Masks
 actions = plainMasks 0 0 1 0 ∷ plainMasks 1 0 2 0 ∷ plainMasks 0 0 0 3 ∷ []
 
--- so many values has a variable, 0 on a sheet without variables
-abbrev pub jobWith : ℕ → List ℕ → World
-jobWith domain log =
+-- so many values has a variable, 0 on a sheet without variables; and so a test inside a walk is read, `step` on a sheet that does not say it
+abbrev pub jobWith : ℕ → Reading → List ℕ → World
+jobWith domain reading log =
     record {
       fluents = 2;
       actions = 3;
@@ -30,6 +30,8 @@ jobWith domain log =
       start = 0;
       domain = domain;
       values = noValues;
+      own = reading;
+      inner = reading;
       log = log;
     }
 
@@ -42,6 +44,10 @@ M = 1 ∷ 0 ∷ []
 
 abbrev pub E : List ℕ
 E = []
+
+-- a log of Q-7: 00 01
+abbrev pub K : List ℕ
+K = 0 ∷ 1 ∷ []
 
 -- the sheet's `ask=` line, "the ask above"
 abbrev pub ask : String
@@ -122,6 +128,37 @@ threeValues =
     ∷ finish E "pv?<s00v1" 1 (refusal 11)
     ∷ []
 
+-- Q-7, "`now=step` or `now=end`": the same questions, each with its answer under the one and under the other
+abbrev pub stepCases : List Case
+stepCases =
+    reach L "?<a011" 1 4 0 0 64
+    ∷ reach L "?<a011" 1 2 0 0 64
+    ∷ reach L "?<a011" 1 1 0 0 64
+    ∷ verdict L "<?<a0111" 1 4 no
+    ∷ verdict L "<?<a0111" 1 1 no
+    ∷ reach L "*;n?<a011" 0 4 1 1 0
+    ∷ reach L "*;?!<a021n" 0 4 31 5 0
+    ∷ reach K ";a00;?<a011a01" 0 2 0 0 64
+    ∷ finish K ";a00;?<a011a01" 0 (refusal 11)
+    ∷ finish K ";a00;a01?<-;a00;?<a011a011" 0 (refusal 11)
+    ∷ finish K ";a00;?<-;a00?<a0111a01" 0 (refusal 11)
+    ∷ []
+
+abbrev pub endCases : List Case
+endCases =
+    reach L "?<a011" 1 4 2 1 1
+    ∷ reach L "?<a011" 1 2 2 1 1
+    ∷ reach L "?<a011" 1 1 0 0 64
+    ∷ verdict L "<?<a0111" 1 4 yes
+    ∷ verdict L "<?<a0111" 1 1 no
+    ∷ reach L "*;n?<a011" 0 4 3 2 0
+    ∷ reach L "*;?!<a021n" 0 4 7 3 0
+    ∷ reach K ";a00;?<a011a01" 0 2 4 1 2
+    ∷ finish K ";a00;?<a011a01" 0 (refusal 11)
+    ∷ finish K ";a00;a01?<-;a00;?<a011a011" 0 (sequence [])
+    ∷ finish K ";a00;?<-;a00?<a0111a01" 0 (refusal 11)
+    ∷ []
+
 -- What a case says
 
 -- the bytes are one rule of this kind and no other, and this is said of it
@@ -148,17 +185,17 @@ abbrev pub Finishing : World → ℕ → CaseEnding → Walk → Type 0
 Finishing w more (sequence ending) job = First w job more ending
 Finishing w more (refusal number) job = (number ≡ 11) × None w job more
 
--- with so many values
-abbrev pub CaseSays : ℕ → Case → Type 0
-CaseSays domain (reach log walk t n set count earliest) =
-    SpelledAs walkKind (bytes walk) (OfWalk (λ x. ReachedAs (jobWith domain log) x t n set count earliest))
-CaseSays domain (verdict log test t n answer) = SpelledAs testKind (bytes test) (OfTest (λ x. IsSo answer (Holds (jobWith domain log) x t n)))
-CaseSays domain (form kind rule normal) = SpelledAs kind (bytes rule) (λ x. text (normalRule x) ≡ bytes normal)
-CaseSays domain (finish log job more ending) = SpelledAs jobKind (bytes job) (OfWalk (Finishing (jobWith domain log) more ending))
+-- of what each log is asked: with so many values, and so read
+abbrev pub CaseSays : (List ℕ → World) → Case → Type 0
+CaseSays of (reach log walk t n set count earliest) =
+    SpelledAs walkKind (bytes walk) (OfWalk (λ x. ReachedAs (of log) x t n set count earliest))
+CaseSays of (verdict log test t n answer) = SpelledAs testKind (bytes test) (OfTest (λ x. IsSo answer (Holds (of log) x t n)))
+CaseSays of (form kind rule normal) = SpelledAs kind (bytes rule) (λ x. text (normalRule x) ≡ bytes normal)
+CaseSays of (finish log job more ending) = SpelledAs jobKind (bytes job) (OfWalk (Finishing (of log) more ending))
 
-abbrev pub AllSay : ℕ → List Case → Type 0
-AllSay domain [] = Unit {0}
-AllSay domain (c ∷ rest) = CaseSays domain c × AllSay domain rest
+abbrev pub AllSay : (List ℕ → World) → List Case → Type 0
+AllSay of [] = Unit {0}
+AllSay of (c ∷ rest) = CaseSays of c × AllSay of rest
 
 -- Q-6: one action of two clauses, taken as often as there are states to be shown
 
@@ -184,7 +221,7 @@ effectCases =
 -- a theory of this one action, which is possible in every state
 abbrev pub oneAction : ℕ → Clause → Clause → List ℕ → World
 oneAction start one two log =
-    record { fluents = 2; actions = 1; masks = λ a. masksOf 0 0 one two; start = start; domain = 0; values = noValues; log = log }
+    record { fluents = 2; actions = 1; masks = λ a. masksOf 0 0 one two; start = start; domain = 0; values = noValues; own = nowStep; inner = nowStep; log = log }
 
 -- the states of a world at as many positions, from p on, as the list is long
 abbrev pub statesFrom : World → ℕ → List ℕ → List ℕ

@@ -1,12 +1,12 @@
--- Document 01, the two tables: where a walk leads, and when a test is true; document 02, Q-2: for some value. The world is an explicit argument of each
--- definition, so that a rule may be read in a changed world.
+-- Document 01, the two tables: where a walk leads, and when a test is true; document 02, Q-2: for some value; Q-7: with the now of the step or of the end. The
+-- world is an explicit argument of each definition, so that a rule may be read in a changed world.
 use mathlib.Core.Path.{_≡_}
 use mathlib.Core.Logic.{_⊎_}
 use mathlib.Core.Bool.{true}
 use mathlib.Core.Option.{Option, some}
 use Prim.Native.Nat.{ℕ, _+_, _≤_, _<_}
 use Rattle.laws.specs.Bit.{on}
-use Rattle.meaning.specs.Theory.{Masks, Possible, World, bind, numberIn, stateAt, stepAt}
+use Rattle.meaning.specs.Theory.{Masks, Possible, nowStep, nowEnd, World, bind, inside, numberIn, stateAt, stepAt}
 use Rattle.meaning.specs.Rule.{Walk, Test, act, undo, next, prev, seq, alt, star, check, conv, pick, always, fluent, neg, both, diamond, exists}
 
 -- "means, from p to q, with now = n"
@@ -51,9 +51,10 @@ pub data Chain (r : Rel) (n : ℕ) : ℕ → ℕ → Type 0 where
 abbrev pub Many : Rel → Rel
 Many r p q n = Chain r n p q
 
--- `?T`: "q = p and T is true with then = p and now = p". The now that a test inside a walk has, from its position and the outer now:
+-- `?T`: "q = p and T is true with then = p and now = p". "Under `end`, a `?T` .. has the outer now." The now that a test inside a walk has, from its position and
+-- the walk's now:
 unfoldable pub ownNow : World → ℕ → ℕ → ℕ
-ownNow w p n = p
+ownNow w p n = elim (w .own) [ nowStep ↦ p | nowEnd ↦ n ]
 
 abbrev pub Here : World → Truth → Rel
 Here w x p q n = (q ≡ p) × (p ≤ n) × x p (ownNow w p n)
@@ -118,5 +119,5 @@ unfoldable mutual
   Holds w (fluent i) = On w (numberIn w i)
   Holds w (neg x) = Not (Holds w x)
   Holds w (both x y) = Both (Holds w x) (Holds w y)
-  Holds w (diamond v x) = Some (Leads w v) (Holds w x)
+  Holds w (diamond v x) = Some (Leads (inside w) v) (Holds w x)
   Holds w (exists v x) = Exists (w .domain) (λ k. Holds (bind w v k) x)

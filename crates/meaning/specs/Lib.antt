@@ -4,6 +4,7 @@ pub mod Theory
 pub mod Four
 pub mod Written
 pub mod Leads
+pub mod Stands
 pub mod Reach
 pub mod Normal
 pub mod Finish

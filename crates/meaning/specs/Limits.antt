@@ -29,6 +29,10 @@ depthLimit = 24
 abbrev pub domainLimit : ℕ
 domainLimit = 16
 
+-- "`now=step` or `now=end`": the number of the last reading, in a call
+abbrev pub readingLimit : ℕ
+readingLimit = 1
+
 -- "a bound *more* of 0 to 6"
 abbrev pub moreLimit : ℕ
 moreLimit = 6

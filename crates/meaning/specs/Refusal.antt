@@ -1,4 +1,4 @@
--- Document 01, "Numbers of refusal", and what document 02, Q-2 adds: when each number applies, which one is given, and the values that go with it.
+-- Document 01, "Numbers of refusal", and what document 02, Q-2 and Q-7 add: when each number applies, which one is given, and the values that go with it.
 use mathlib.Core.Path.{_≡_}
 use mathlib.Core.Logic.{_⊎_}
 use mathlib.Core.Bool.{Bool, true, false, cond}
@@ -8,7 +8,7 @@ use Prim.Native.Nat.{ℕ, _*_, _≤_, _<_}
 use lib.Dec.{leb}
 use lib.ListN.{length, getD}
 use Rattle.laws.specs.Bit.{on}
-use Rattle.meaning.specs.Limits.{fluentLimit, actionLimit, places, textLimit, depthLimit, domainLimit, moreLimit}
+use Rattle.meaning.specs.Limits.{fluentLimit, actionLimit, places, textLimit, depthLimit, domainLimit, readingLimit, moreLimit}
 use Rattle.meaning.specs.Theory.{stride}
 use Rattle.meaning.specs.Rule.{Kind, jobKind, Rule, Variable, Opens, actionsIn, fluentsIn, depth, backwardIn, freeIn, variesIn}
 
@@ -65,6 +65,10 @@ BadTable actions masks = length masks ≡ stride * actions → ⊥
 -- 3 "for a bad domain": over 16 values; 0 is a call without variables
 abbrev pub BadDomain : ℕ → Type 0
 BadDomain domain = domainLimit < domain
+
+-- 3 for a reading: "any other value is 3"
+abbrev pub BadReading : ℕ → Type 0
+BadReading reading = readingLimit < reading
 
 abbrev pub BadMore : ℕ → Type 0
 BadMore more = moreLimit < more

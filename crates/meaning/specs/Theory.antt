@@ -1,5 +1,5 @@
 -- Document 01, "Facts, actions, log": states, masks, possible, effects, and the state at a position. Document 02, Q-6: effects that depend on the state; Q-2: the
--- values of variables.
+-- values of variables; Q-7: how much of the log a test inside a walk sees.
 use mathlib.Core.Path.{_≡_}
 use mathlib.Core.Bool.{Bool, true, false, not, _&&_, _||_}
 use mathlib.Core.List.{List, [], _∷_}
@@ -94,8 +94,14 @@ abbrev pub numberOf : Values → Name → ℕ
 numberOf s (plain n) = n
 numberOf s (plus n v) = n + standsFor s v
 
+-- "`now=step` or `now=end`": the now of a `?T` is its own position, or the outer now
+pub data Reading : Type 0 where
+  nowStep : Reading
+  nowEnd : Reading
+
 -- What a question is asked of: how many fluents and actions there are, what each action does, the start state, how many values a variable has ("Values are
--- 0 to NN-1"), what the variables stand for, and the job's log, "one byte each". A later request that varies the meaning adds a field here.
+-- 0 to NN-1"), what the variables stand for, how a walk's own `?T`, "outside every `<`", is read, and how one "within a `<` walk" is, and the job's log, "one byte
+-- each". A later request that varies the meaning adds a field here.
 pub record World : Type 0 where
   pub fluents : ℕ
   pub actions : ℕ
@@ -103,23 +109,67 @@ pub record World : Type 0 where
   pub start : ℕ
   pub domain : ℕ
   pub values : Values
+  pub own : Reading
+  pub inner : Reading
   pub log : List ℕ
 
 -- the same world with another log
 abbrev pub relog : World → List ℕ → World
 relog w l =
-    record { fluents = w .fluents; actions = w .actions; masks = w .masks; start = w .start; domain = w .domain; values = w .values; log = l }
+    record {
+      fluents = w .fluents;
+      actions = w .actions;
+      masks = w .masks;
+      start = w .start;
+      domain = w .domain;
+      values = w .values;
+      own = w .own;
+      inner = w .inner;
+      log = l;
+    }
 
 -- the same world with another domain and other values of the variables; with other values; with another value of one
 abbrev pub varying : World → ℕ → Values → World
 varying w d s =
-    record { fluents = w .fluents; actions = w .actions; masks = w .masks; start = w .start; domain = d; values = s; log = w .log }
+    record {
+      fluents = w .fluents;
+      actions = w .actions;
+      masks = w .masks;
+      start = w .start;
+      domain = d;
+      values = s;
+      own = w .own;
+      inner = w .inner;
+      log = w .log;
+    }
 
 abbrev pub revalue : World → Values → World
 revalue w s = varying w (w .domain) s
 
 abbrev pub bind : World → Variable → ℕ → World
 bind w v k = revalue w (withValue (w .values) v k)
+
+-- the same world with another reading of a walk's own `?T`
+abbrev pub owning : World → Reading → World
+owning w r =
+    record {
+      fluents = w .fluents;
+      actions = w .actions;
+      masks = w .masks;
+      start = w .start;
+      domain = w .domain;
+      values = w .values;
+      own = r;
+      inner = w .inner;
+      log = w .log;
+    }
+
+-- the world of a `<` walk; and of a job: "A job's own `?T`, outside every `<`, keeps its own position."
+abbrev pub inside : World → World
+inside w = owning w (w .inner)
+
+abbrev pub asJob : World → World
+asJob w = owning w nowStep
 
 -- the number that a name stands for in a world
 abbrev pub numberIn : World → Name → ℕ

@@ -1,6 +1,6 @@
 -- The evaluator's arms, sign by sign: what its parts' answers make of the answer for the whole sign, forwards and backwards. Opens the meaning's table;
 -- knows no text and no code.
-use mathlib.Core.Path.{_≡_, sym, _∙_}
+use mathlib.Core.Path.{_≡_, sym, subst⁻¹, _∙_}
 use mathlib.Core.Logic.{_↔_}
 use mathlib.Core.Bool.{Bool, true, false, not, _&&_}
 use Prim.Native.Nat.{ℕ, _+_, _≤_, _<_}
@@ -8,10 +8,11 @@ use native.Mathlib.Omega.{arith}
 use Rattle.meaning.specs.Theory.{World, bind, numberIn, stateAt}
 use Rattle.meaning.specs.Rule.{Variable, Name, Walk, Test, act, undo, next, prev, alt, star, check, conv, pick, always, fluent, neg, both, diamond, walkFree}
 use Rattle.laws.specs.Bit.{on}
-use Rattle.meaning.specs.Leads.{Leads, Holds, Step, AnyStep, Or, Many, Chain, stay, link, Here, Pick}
+use Rattle.meaning.specs.Leads.{Leads, Holds, Some, Step, AnyStep, Or, Many, Chain, stay, link, Here, Pick}
 use Rattle.meaning.proofs.Chain.{Within, chain-append, chain-one}
 use Rattle.meaning.proofs.Bounds.{leads-within, back-within}
 use Rattle.meaning.proofs.Converse.{back-exchanged}
+use Rattle.meaning.proofs.Readings.{inside-same}
 use Rattle.meaning.proofs.Normal.{at-places}
 use Rattle.meaning.proofs.Written.{leads-idle, back-idle}
 use Rattle.tables.specs.Tables.{TakenAt}
@@ -136,8 +137,10 @@ pub both-keeps : (w : World) (x y : Test) {n : ℕ} {s t r : Set} → Sifted (Ho
 unfolding Leads
 both-keeps w x y f g = both-sifted f g
 
--- `<WT`: by the converse theorem
-pub diamond-keeps : (w : World) (v : Walk) (x : Test) {n : ℕ} {s all t m r : Set} → ((q : ℕ) → q ≤ n → all q ≡ true) → Sifted (Holds w x) n all t
+-- `<WT`, where a `<` changes no reading: by the converse theorem
+pub diamond-keeps : (w : World) → w .own ≡ w .inner → (v : Walk) (x : Test) {n : ℕ} {s all t m r : Set} → ((q : ℕ) → q ≤ n → all q ≡ true) → Sifted (Holds w x) n all t
     → Image (Way w v true) n t m → ((q : ℕ) → r q ≡ (s q && m q)) → Sifted (Holds w (diamond v x)) n s r
 unfolding Leads
-diamond-keeps w v x {n} all f i meet = some-sifted (leads-within w v) (λ p q. back-exchanged w v p q n) all f i meet
+diamond-keeps w same v x {n} {s} {r = r} all f i meet =
+    subst⁻¹ (λ (u : World). Sifted (Some (Leads u v) (Holds w x)) n s r) (inside-same w same)
+    (some-sifted (leads-within w v) (λ p q. back-exchanged w v p q n) all f i meet)

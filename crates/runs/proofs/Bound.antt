@@ -1,4 +1,4 @@
--- What the variables stand for, as the evaluator is given it: a value given over another is the world's binding. And where a variable's letter stands in a part
+-- What the variables stand for and how tests are read, as the evaluator is given it: a value given over another is the world's binding. And where a variable's letter stands in a part
 -- nowhere but in what binds it anew, it does not stand free, so that its value does not matter there. Knows the letters in a text, and no set.
 use mathlib.Core.Path.{_≡_, refl, sym, ap, ap₂, subst, subst⁻¹, subst₂, _∙_}
 use mathlib.Core.Logic.{_↔_, _⊎_, inl, inr, ⊎-elim}
@@ -10,7 +10,7 @@ use borrow.Author.Tests.{eq-eqb, ne-eqb}
 use lib.ListN.{length, getD, set, length-set, length-drop}
 use lib.Seq.{getD-set-same, getD-set-other}
 use Rattle.laws.proofs.Truth.{off-on}
-use Rattle.meaning.specs.Theory.{World, Values, standsFor, withValue, noValues, numberOf, revalue, bind}
+use Rattle.meaning.specs.Theory.{World, Values, standsFor, withValue, noValues, numberOf, revalue, bind, inside}
 use Rattle.meaning.specs.Rule.{Walk, Test, plain, plus, act, undo, next, prev, seq, alt, star, check, conv, pick, always, fluent, neg, both, diamond, exists}
 use Rattle.meaning.specs.Rule.{Variable, varV, varW, varX, varY, letter, isVariable, Name, hasName, walkFree, testFree, Rule, ofWalk, ofTest, freeIn, walkText, testText, text}
 use Rattle.meaning.specs.Leads.{Many}
@@ -22,26 +22,33 @@ use Rattle.meaning.proofs.Written.{leads-idle}
 use Rattle.meaning.specs.Limits.{numberLimit}
 use Rattle.spelling.specs.declared.Digits.the-variants.{Number}
 use Rattle.spelling.specs.Scan.{NumberAt}
-use Rattle.tables.proofs.Transposed.{described-bound}
+use Rattle.theory.specs.Subject.{readingOf}
+use Rattle.tables.proofs.Transposed.{described-bound, described-owning}
 use Rattle.grammar.specs.Letters.{variables, place, Lettered}
 use Rattle.grammar.specs.Standing.{Stands, Ends}
 use Rattle.grammar.proofs.Numbers.{byte, number-tens, number-ones}
 use Rattle.grammar.proofs.Lettering.{letter-is, place-low, one-place}
 use Rattle.grammar.proofs.Spread.{Spread, spread, act-at, undo-at, next-at, prev-at, seq-at, alt-at, star-at, check-at, conv-at, pick-at}
 use Rattle.grammar.proofs.Spread.{always-at, fluent-at, neg-at, both-at, diamond-at, exists-at, sum-act-at, sum-undo-at, sum-fluent-at}
-use Rattle.runs.specs.Values.{valueIn, unbound, Bears, BinderHere, Rebinds, Clean, past, other, skip, Passed, Turns}
+use Rattle.runs.specs.Values.{valueIn, innerIn, unbound, insideOf, Bears, BinderHere, Rebinds, Clean, past, other, skip, Passed, Turns}
 use Rattle.runs.specs.Found.{Tabled}
 use Rattle.runs.proofs.Seen.{seq-long, alt-long, star-long, check-long, conv-long, pick-long, neg-long, both-long, diamond-long, exists-long}
 
 -- where no variable is bound, each stands for 0
-none-stand : (domain : ℕ) (v : Variable) → standsFor noValues v ≡ valueIn (unbound domain) v
-none-stand domain varV = refl
-none-stand domain varW = refl
-none-stand domain varX = refl
-none-stand domain varY = refl
+none-stand : (domain own inner : ℕ) (v : Variable) → standsFor noValues v ≡ valueIn (unbound domain own inner) v
+none-stand domain own inner varV = refl
+none-stand domain own inner varW = refl
+none-stand domain own inner varX = refl
+none-stand domain own inner varY = refl
 
-pub bears-none : (w : World) → w .values ≡ noValues → Bears w (unbound (w .domain))
-bears-none w e = record { room = omega arith; many = refl; stand = λ v. ap (λ (s : Values). standsFor s v) e ∙ none-stand (w .domain) v }
+pub bears-none : (w : World) → w .values ≡ noValues → (own inner : ℕ) → w .own ≡ readingOf own → w .inner ≡ readingOf inner → Bears w (unbound (w .domain) own inner)
+bears-none w e own inner first second = record {
+  room = omega arith;
+  many = refl;
+  stand = λ v. ap (λ (s : Values). standsFor s v) e ∙ none-stand (w .domain) own inner v;
+  own = first;
+  inner = second;
+}
 
 -- one variable more is bound
 bears-more : (w : World) (v : Variable) (k : ℕ) {bound : List ℕ} → Bears w bound → Bears (bind w v k) (set bound (place v) k)
@@ -49,6 +56,8 @@ bears-more w v k {bound} b = record {
   room = omega (arith, b .room, length-set bound (place v) k);
   many = b .many ∙ sym (getD-set-other bound (place v) (length variables) k 0 (λ e. omega (arith, place-low v, e)));
   stand = λ u. go u (one-or-apart u v);
+  own = b .own ∙ ap readingOf (sym (getD-set-other bound (place v) (length variables + 1) k 0 (λ e. omega (arith, place-low v, e))));
+  inner = b .inner ∙ ap readingOf (sym (getD-set-other bound (place v) (length variables + 2) k 0 (λ e. omega (arith, place-low v, e))));
 }
   where
     go : (u : Variable) → ((isVariable u v ≡ true) × (u ≡ v)) ⊎ Apart u v → standsFor (withValue (w .values) v k) u ≡ valueIn (set bound (place v) k) u
@@ -66,6 +75,30 @@ tabled-bound {w} v k t = record {
   room = t .room;
   bears = bears-more w v k (t .bears);
 }
+
+-- inside a `<`
+bears-inside : (w : World) {bound : List ℕ} → Bears w bound → Bears (inside w) (insideOf bound)
+bears-inside w {bound} b =
+    let at = length variables + 1 in
+    let reading = innerIn bound in record {
+      room = omega (arith, b .room, length-set bound at reading);
+      many = b .many ∙ sym (getD-set-other bound at (length variables) reading 0 (λ e. omega arith));
+      stand = λ v. b .stand v ∙ sym (getD-set-other bound at (place v) reading 0 (λ e. omega (arith, place-low v, e)));
+      own = b .inner ∙ ap readingOf (sym (getD-set-same bound at reading 0 (omega (arith, b .room))));
+      inner = b .inner ∙ ap readingOf (sym (getD-set-other bound at (length variables + 2) reading 0 (λ e. omega arith)));
+    }
+
+pub tabled-inside : {w : World} {rows bound : List ℕ} {n : ℕ} → Tabled w rows bound n → Tabled (inside w) rows (insideOf bound) n
+tabled-inside {w} t = record {
+  described = described-owning w (w .inner) (t .described);
+  logged = t .logged;
+  room = t .room;
+  bears = bears-inside w (t .bears);
+}
+
+-- at an earlier now
+pub tabled-earlier : {w : World} {rows bound : List ℕ} {n m : ℕ} → Tabled w rows bound n → m ≤ n → Tabled w rows bound m
+tabled-earlier t low = record { described = t .described; logged = omega (arith, t .logged); room = t .room; bears = t .bears }
 
 -- the byte of a variable's letter, and the variable whose letter it is
 pub letter-byte : (bytes : List ℕ) (at : ℕ) (v : Variable) → Lettered bytes at v → getD bytes at 0 ≡ letter v

@@ -6,13 +6,11 @@ use mathlib.Core.Bool.{Bool, true, false, not, _&&_, _||_}
 use mathlib.Core.List.{List}
 use Prim.Native.Nat.{ℕ, _+_, _≤_, _<_}
 use native.Mathlib.Omega.{arith}
-use native.Mathlib.Decide.{decLt, decLe}
+use native.Mathlib.Decide.{decLt}
 use lib.Bits.{bitOr}
-use lib.Dec.{leb, ltb}
 use lib.ListN.{length, getD, set}
-use borrow.Author.Tests.{leb-true, ltb-true, le-leb, lt-ltb}
 use Rattle.laws.specs.Bit.{on}
-use Rattle.laws.proofs.Truth.{off-on, true-or-false, and-iff, or-iff}
+use Rattle.laws.proofs.Truth.{off-on, true-or-false, or-iff}
 use Rattle.laws.proofs.On.{on-none}
 use Rattle.laws.proofs.Bitwise.{on-or}
 use Rattle.meaning.specs.Limits.{actionLimit}
@@ -29,41 +27,13 @@ use Rattle.runs.specs.Image.{Set, UpTo, Image, Sifted, Way}
 use Rattle.runs.specs.Values.{domainIn, Bears, BinderHere, Turns}
 use Rattle.runs.specs.Found.{Tabled}
 use Rattle.runs.specs.Slots.{Outside, Forgotten}
-use Rattle.runs.specs.Run.{Ground, start, Seen, Told, Covers, Begun, Walked, Tested, WalkKept, TestKept, Heard, Asking, AskKept}
+use Rattle.runs.specs.Run.{Ground, start, Seen, Told, Begun, Walked, Tested, WalkKept, TestKept, Heard, Asking, AskKept}
 use Rattle.runs.proofs.Arms.{pick-way, way-idle}
 use Rattle.runs.proofs.Image.{rest-iff}
 use Rattle.runs.proofs.Keeping.{outside-more, outside-none, outside-then}
-use Rattle.runs.proofs.Seen.{pick-long, exists-long, seen-none, told-none, told-fewer}
+use Rattle.runs.proofs.Seen.{pick-long, exists-long, seen-none, Within, within-covers, Bare, within-told, bare-told}
 use Rattle.runs.proofs.Bound.{tabled-bound, asks-idle}
 use Rattle.runs.proofs.Heard.{asked-exact}
-
--- A part under a binder: a scope of its own.
-abbrev Within : ℕ → ℕ → Set
-Within from to i = leb from i && ltb (i + 1) to
-
-within-covers : (from to : ℕ) → Covers (Within from to) from to
-within-covers from to i low high = and-iff (leb from i) (ltb (i + 1) to) .1 (le-leb from i low, lt-ltb (i + 1) to high)
-
--- the slots between two places have nothing
-abbrev Bare : List ℕ → ℕ → ℕ → Type 0
-Bare slots from to = (j : ℕ) → from ≤ j → j < to → getD slots j 0 ≡ 0
-
-within-told : {w : World} {bytes slots : List ℕ} (from to : ℕ) → Bare slots from to → Told w bytes (Within from to) slots
-within-told from to bare = told-none (λ j there.
-    let (low, high) = and-iff (leb from j) (ltb (j + 1) to) .0 there in
-    let above : from ≤ j = leb-true from j low in
-    let below : j + 1 < to = ltb-true (j + 1) to high in
-    (bare j above (omega arith), bare (j + 1) (omega arith) below))
-
--- what is told outside stays so, where the part's slots have nothing at the end
-bare-told : {w : World} {bytes : List ℕ} {scope : Set} {before slots : List ℕ} (from to : ℕ) → Bare slots from to → Outside from to before slots → Told w bytes scope before
-    → Told w bytes scope slots
-bare-told {before = before} {slots = slots} from to bare o told = told-fewer slots (λ j star. go j (decLe from j) (decLt j to)) told
-  where
-    go : (j : ℕ) → Dec (from ≤ j) → Dec (j < to) → (getD slots j 0 ≡ getD before j 0) ⊎ (getD slots j 0 ≡ 0)
-    go j (yes low) (yes high) = inr (bare j low high)
-    go j (yes low) (no high) = inl (o .same j (inr (omega arith)))
-    go j (no low) high = inl (o .same j (inl (omega arith)))
 
 -- `pvW`, with so many values gone over: the letter of v and the walk W stand behind the sign
 pub record Choice (w : World) (v : Variable) (x : Walk) (back : Bool) (n part end : ℕ) (before slots : List ℕ) (from found : Set) (value : ℕ) : Type 0 where
@@ -186,7 +156,7 @@ pub record Sorted (w : World) (v : Variable) (x : Test) (n part end : ℕ) (befo
 pub record Sorting (bytes : List ℕ) (at end : ℕ) (rows bound : List ℕ) (n : ℕ) (before slots : List ℕ) (among found left : Set) (value : ℕ) : Type 0 where
   pub bare : Bare slots (at + 2) end
   pub rest : (q : ℕ) → left q ≡ (among q && not (found q))
-  pub each : (w : World) → Tabled w rows bound n → UpTo n among → (v : Variable) (x : Test) → Lettered bytes (at + 1) v → Stands bytes (at + 2) (ofTest x)
+  pub each : (w : World) → w .own ≡ w .inner → Tabled w rows bound n → UpTo n among → (v : Variable) (x : Test) → Lettered bytes (at + 1) v → Stands bytes (at + 2) (ofTest x)
       → end ≡ at + 2 + length (testText x) → Sorted w v x n (at + 2) end before slots among found value
 
 module _ {bytes : List ℕ} {at end : ℕ} {rows bound : List ℕ} {n : ℕ} {before : List ℕ} {among : Set} where
@@ -194,7 +164,7 @@ module _ {bytes : List ℕ} {at end : ℕ} {rows bound : List ℕ} {n : ℕ} {be
   sorting-start {found} empty bare = record {
     bare = bare;
     rest = λ q. all-left (among q) (found q) (empty q);
-    each = λ w tabled low v x l s e. record {
+    each = λ w one tabled low v x l s e. record {
       sifted = record { each = λ q. (λ h. absurd (off-on (empty q) h), λ h. let few : h .1 .0 < 0 = h .1 .1 in absurd (omega arith)) };
       outside = outside-none;
     };
@@ -222,18 +192,18 @@ module _ {bytes : List ℕ} {at end : ℕ} {rows bound : List ℕ} {n : ℕ} {be
       mine : (q : ℕ) → left q ≡ true → (among q ≡ true) × (found q ≡ false)
       mine q h = rest-iff (among q) (found q) .0 (sym (r .rest q) ∙ h)
 
-      asked : (w : World) → Tabled w rows bound n → UpTo n among → (v : Variable) (x : Test) → Lettered bytes (at + 1) v → Stands bytes (at + 2) (ofTest x)
+      asked : (w : World) → w .own ≡ w .inner → Tabled w rows bound n → UpTo n among → (v : Variable) (x : Test) → Lettered bytes (at + 1) v → Stands bytes (at + 2) (ofTest x)
           → end ≡ at + 2 + length (testText x) → Tested (bind w v value) bytes (Within (at + 2) end) n (at + 2) x slots middle left there
-      asked w tabled low v x l s e =
+      asked w one tabled low v x l s e =
           let own : inner ≡ set bound (place v) value = subst (λ (i : ℕ). inner ≡ set bound i value) (letter v l) same in
-          f .found (bind w v value) (Within (at + 2) end) (subst⁻¹ (λ (k : List ℕ). Tabled (bind w v value) rows k n) own (tabled-bound v value tabled))
+          f .found (bind w v value) (Within (at + 2) end) one (subst⁻¹ (λ (k : List ℕ). Tabled (bind w v value) rows k n) own (tabled-bound v value tabled))
           (λ q h. low q (mine q h .0)) x s (λ i above below. within-covers (at + 2) end i above (omega (arith, e))) (within-told (at + 2) end (r .bare))
 
-      go : (w : World) → Tabled w rows bound n → UpTo n among → (v : Variable) (x : Test) → Lettered bytes (at + 1) v → Stands bytes (at + 2) (ofTest x)
+      go : (w : World) → w .own ≡ w .inner → Tabled w rows bound n → UpTo n among → (v : Variable) (x : Test) → Lettered bytes (at + 1) v → Stands bytes (at + 2) (ofTest x)
           → end ≡ at + 2 + length (testText x) → Sorted w v x n (at + 2) end before after among all (value + 1)
-      go w tabled low v x l s e =
-          let u = r .each w tabled low v x l s e in
-          let t = asked w tabled low v x l s e in
+      go w one tabled low v x l s e =
+          let u = r .each w one tabled low v x l s e in
+          let t = asked w one tabled low v x l s e in
           record {
             sifted = record {
               each = λ q. (
@@ -250,24 +220,24 @@ module _ {bytes : List ℕ} {at end : ℕ} {rows bound : List ℕ} {n : ℕ} {be
           last : (q : ℕ) → among q ≡ true → (j : ℕ) → j < value + 1 → Holds (bind w v j) x q n → Dec (j < value) → (found q ≡ true) ⊎ (found q ≡ false)
               → (found q ≡ true) ⊎ (there q ≡ true)
           last q i j few true-there dec (inl in-found) = inl in-found
-          last q i j few true-there (yes less) (inr out) = inl (r .each w tabled low v x l s e .sifted .each q .1 (i, (j, less, true-there)))
+          last q i j few true-there (yes less) (inr out) = inl (r .each w one tabled low v x l s e .sifted .each q .1 (i, (j, less, true-there)))
           last q i j few true-there (no more) (inr out) =
               let this : j ≡ value = omega arith in
               let own : left q ≡ true = r .rest q ∙ rest-iff (among q) (found q) .1 (i, out) in
-              inr (asked w tabled low v x l s e .sifted .each q .1 (own, subst (λ (k : ℕ). Holds (bind w v k) x q n) this true-there))
+              inr (asked w one tabled low v x l s e .sifted .each q .1 (own, subst (λ (k : ℕ). Holds (bind w v k) x q n) this true-there))
 
   -- all values gone over, or nothing left
   pub sorting-done : {first slots : List ℕ} {found left : Set} {value many : ℕ} → getD bytes at 0 ≡ 101 → BinderHere bytes at end → Turns bytes at (domainIn bound) many
       → Forgotten first (at + 2) end before → value ≤ many → (many ≤ value) ⊎ ((q : ℕ) → left q ≡ false) → Sorting bytes at end rows bound n before slots among found left value
       → TestKept bytes at rows bound n first slots among found
   unfolding Leads
-  sorting-done {first} {slots} {found} {left} {value} {many} sign here turns clean part whole r = record { found = λ w scope tabled low x h covers. go w scope tabled low (spread h 101 sign) }
+  sorting-done {first} {slots} {found} {left} {value} {many} sign here turns clean part whole r = record { found = λ w scope one tabled low x h covers. go w scope one tabled low (spread h 101 sign) }
     where
-      go : (w : World) (scope : Set) → Tabled w rows bound n → UpTo n among → {x : Test} → Spread bytes at 101 (ofTest x) → Told w bytes scope first
+      go : (w : World) (scope : Set) → w .own ≡ w .inner → Tabled w rows bound n → UpTo n among → {x : Test} → Spread bytes at 101 (ofTest x) → Told w n bytes scope first
           → Tested w bytes scope n at x first slots among found
-      go w scope tabled low (exists-at v x l s) told =
+      go w scope one tabled low (exists-at v x l s) told =
           let e = here .ends (ofTest x) s in
-          let u = r .each w tabled low v x l s e in
+          let u = r .each w one tabled low v x l s e in
           record {
             sifted = record {
               each = λ q. (
@@ -286,9 +256,9 @@ module _ {bytes : List ℕ} {at end : ℕ} {rows bound : List ℕ} {n : ℕ} {be
               (λ out. absurd (off-on (none q) (r .rest q ∙ rest-iff (among q) (found q) .1 (i, out))))
               (true-or-false (found q))
           last q i j few true-there (inl done) (inl all) =
-              r .each w tabled low v x l s (here .ends (ofTest x) s) .sifted .each q .1 (i, (j, omega (arith, tabled .bears .many), true-there))
-          last q i j few true-there (inl done) (inr (one, idle)) =
-              r .each w tabled low v x l s (here .ends (ofTest x) s) .sifted .each q .1
+              r .each w one tabled low v x l s (here .ends (ofTest x) s) .sifted .each q .1 (i, (j, omega (arith, tabled .bears .many), true-there))
+          last q i j few true-there (inl done) (inr (single, idle)) =
+              r .each w one tabled low v x l s (here .ends (ofTest x) s) .sifted .each q .1
               (i, (0, omega arith, at-times (holds-idle w v 0 x idle) q n .1 (at-times (holds-idle w v j x idle) q n .0 true-there)))
 
 -- One pass over `pvW`: what is asked for with the values gone over so far, too.

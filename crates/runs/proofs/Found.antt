@@ -231,7 +231,7 @@ run-here {bytes} {ends} {at} {last} here sign run = go (last - at) at (omega (ar
 module _ {bytes : List ℕ} {at : ℕ} {rows bound : List ℕ} {n : ℕ} {s : Set} where
   -- `1`, `fNN`: nothing is kept
   pub leaf-tested : {slots : List ℕ} {r : Set} → TestFound bytes at rows bound n s r → TestKept bytes at rows bound n slots slots s r
-  leaf-tested f = record { found = λ w scope tabled low x h covers told. record { sifted = f .found w tabled low x h; told = told; outside = outside-none } }
+  leaf-tested f = record { found = λ w scope same tabled low x h covers told. record { sifted = f .found w tabled low x h; told = told; outside = outside-none } }
 
   pub always-found : getD bytes at 0 ≡ 49 → TestFound bytes at rows bound n s s
   always-found sign = record { found = λ w tabled low x h. go w (spread h 49 sign) }
@@ -242,26 +242,26 @@ module _ {bytes : List ℕ} {at : ℕ} {rows bound : List ℕ} {n : ℕ} {s : Se
   -- `!T`
   pub neg-kept : {one two : List ℕ} {a r : Set} → getD bytes at 0 ≡ 33 → TestKept bytes (at + 1) rows bound n one two s a → ((q : ℕ) → r q ≡ (s q && not (a q)))
       → TestKept bytes at rows bound n one two s r
-  neg-kept {one} {two} {a} {r} sign f rest = record { found = λ w scope tabled low x h. go w scope tabled low (spread h 33 sign) }
+  neg-kept {one} {two} {a} {r} sign f rest = record { found = λ w scope same tabled low x h. go w scope same tabled low (spread h 33 sign) }
     where
-      go : (w : World) (scope : Set) → Tabled w rows bound n → UpTo n s → {x : Test} → Spread bytes at 33 (ofTest x) → Covers scope at (at + length (testText x))
-          → Told w bytes scope one → Tested w bytes scope n at x one two s r
-      go w scope tabled low (neg-at t p) covers told =
-          let u = f .found w scope tabled low t p (λ i low high. covers i (omega arith) (omega (arith, neg-long t))) told in
+      go : (w : World) (scope : Set) → w .own ≡ w .inner → Tabled w rows bound n → UpTo n s → {x : Test} → Spread bytes at 33 (ofTest x) → Covers scope at (at + length (testText x))
+          → Told w n bytes scope one → Tested w bytes scope n at x one two s r
+      go w scope same tabled low (neg-at t p) covers told =
+          let u = f .found w scope same tabled low t p (λ i low high. covers i (omega arith) (omega (arith, neg-long t))) told in
           record { sifted = neg-keeps w t rest (u .sifted); told = u .told; outside = outside-more (omega arith) (omega (arith, neg-long t)) (u .outside) }
 
   module _ {ends : List ℕ} (marked : Ends bytes ends) {other : ℕ} (there : other ≡ getD ends (at + 1) 0) where
     -- `&TU`
     pub both-kept : {one two three : List ℕ} {a r : Set} → getD bytes at 0 ≡ 38 → TestKept bytes (at + 1) rows bound n one two s a → TestKept bytes other rows bound n two three a r
         → TestKept bytes at rows bound n one three s r
-    both-kept {one} {two} {three} {a} {r} sign f k = record { found = λ w scope tabled low x h. go w scope tabled low (spread h 38 sign) }
+    both-kept {one} {two} {three} {a} {r} sign f k = record { found = λ w scope same tabled low x h. go w scope same tabled low (spread h 38 sign) }
       where
-        go : (w : World) (scope : Set) → Tabled w rows bound n → UpTo n s → {x : Test} → Spread bytes at 38 (ofTest x) → Covers scope at (at + length (testText x))
-            → Told w bytes scope one → Tested w bytes scope n at x one three s r
-        go w scope tabled low (both-at t x p q) covers told =
-            let u = f .found w scope tabled low t p (λ i low high. covers i (omega arith) (omega (arith, both-long t x))) told in
+        go : (w : World) (scope : Set) → w .own ≡ w .inner → Tabled w rows bound n → UpTo n s → {x : Test} → Spread bytes at 38 (ofTest x) → Covers scope at (at + length (testText x))
+            → Told w n bytes scope one → Tested w bytes scope n at x one three s r
+        go w scope same tabled low (both-at t x p q) covers told =
+            let u = f .found w scope same tabled low t p (λ i low high. covers i (omega arith) (omega (arith, both-long t x))) told in
             let second = subst (λ (i : ℕ). TestKept bytes i rows bound n two three a r) (sym (end-there marked p other there)) k in
-            let v = second .found w scope tabled (sifted-up-to low (u .sifted)) x q (λ i low high. covers i (omega arith) (omega (arith, both-long t x))) (u .told) in
+            let v = second .found w scope same tabled (sifted-up-to low (u .sifted)) x q (λ i low high. covers i (omega arith) (omega (arith, both-long t x))) (u .told) in
             record {
               sifted = both-keeps w t x (u .sifted) (v .sifted);
               told = v .told;
@@ -273,17 +273,17 @@ module _ {bytes : List ℕ} {at : ℕ} {rows bound : List ℕ} {n : ℕ} {s : Se
     pub diamond-kept : {one two three four : List ℕ} (all : Set) {t m r : Set} → getD bytes at 0 ≡ 60 → AllTo n all → TestKept bytes other rows bound n one two all t
         → Cleared bytes two (at + 1) other three → WalkKept bytes (at + 1) true rows bound n three four t m → ((q : ℕ) → r q ≡ (s q && m q))
         → TestKept bytes at rows bound n one four s r
-    diamond-kept {one} {two} {three} {four} all {t} {m} {r} sign every f clean k meet = record { found = λ w scope tabled low x h. go w scope tabled low (spread h 60 sign) }
+    diamond-kept {one} {two} {three} {four} all {t} {m} {r} sign every f clean k meet = record { found = λ w scope same tabled low x h. go w scope same tabled low (spread h 60 sign) }
       where
         up : UpTo n all
         up q i = leb-true q n (and-iff (leb q n) (ltb q places) .0 (sym (every q) ∙ i) .0)
 
-        go : (w : World) (scope : Set) → Tabled w rows bound n → UpTo n s → {x : Test} → Spread bytes at 60 (ofTest x) → Covers scope at (at + length (testText x))
-            → Told w bytes scope one → Tested w bytes scope n at x one four s r
-        go w scope tabled low (diamond-at v x p q) covers told =
+        go : (w : World) (scope : Set) → w .own ≡ w .inner → Tabled w rows bound n → UpTo n s → {x : Test} → Spread bytes at 60 (ofTest x) → Covers scope at (at + length (testText x))
+            → Told w n bytes scope one → Tested w bytes scope n at x one four s r
+        go w scope same tabled low (diamond-at v x p q) covers told =
             let e = end-there marked p other there in
             let second = subst (λ (i : ℕ). TestKept bytes i rows bound n one two all t) (sym e) f in
-            let u = second .found w scope tabled up x q (λ i low high. covers i (omega arith) (omega (arith, diamond-long v x))) told in
+            let u = second .found w scope same tabled up x q (λ i low high. covers i (omega arith) (omega (arith, diamond-long v x))) told in
             let begun : Begun w bytes scope rows bound n (at + 1) v true (start t) three t = record {
               tabled = tabled;
               low = sifted-up-to up (u .sifted);
@@ -296,7 +296,7 @@ module _ {bytes : List ℕ} {at : ℕ} {rows bound : List ℕ} {n : ℕ} {s : Se
             let y = k .found w scope v (start t) begun in
             let image : Image (Way w v true) n t m = record { each = λ q. (y .most q, λ h. y .least (h .0) q (h .1) (h .2)) } in
             record {
-              sifted = diamond-keeps w v x (all-to tabled all every) (u .sifted) image meet;
+              sifted = diamond-keeps w same v x (all-to tabled all every) (u .sifted) image meet;
               told = y .told;
               outside = outside-then (outside-more (omega arith) (omega (arith, diamond-long v x)) (u .outside))
                   (outside-then (outside-more (omega arith) (omega (arith, e, diamond-long v x)) (clean .outside))

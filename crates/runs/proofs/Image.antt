@@ -31,54 +31,51 @@ rest-iff a b = (
   λ h. let (p, q) = h in and-iff a (not b) .1 (p, rw q),
 )
 
--- `?T`, what its loop holds between two positions: it has kept those of the set that are gone over and where the test is true with now there
-pub record Gone (x : Truth) (s left kept : Set) : Type 0 where
+-- `?T`, what its loop holds between two turns: it has kept those of the set that are gone over and where this is so
+pub record Gone (x : ℕ → Type 0) (s left kept : Set) : Type 0 where
   pub within : (q : ℕ) → left q ≡ true → s q ≡ true
-  pub each : (q : ℕ) → (kept q ≡ true) ↔ ((s q ≡ true) × (left q ≡ false) × x q q)
+  pub each : (q : ℕ) → (kept q ≡ true) ↔ ((s q ≡ true) × (left q ≡ false) × x q)
 
--- one position more is gone over
-pub gone-more : {x : Truth} {s left kept one there left′ kept′ : Set} (p : ℕ) → left p ≡ true → ((q : ℕ) → (one q ≡ true) ↔ (q ≡ p))
-    → Sifted x p one there → ((q : ℕ) → kept′ q ≡ (kept q || there q)) → ((q : ℕ) → left′ q ≡ (left q && not (one q)))
+-- some positions more are gone over
+pub gone-more : {x : ℕ → Type 0} {s left kept these there left′ kept′ : Set} → ((q : ℕ) → these q ≡ true → left q ≡ true)
+    → ((q : ℕ) → (there q ≡ true) ↔ ((these q ≡ true) × x q)) → ((q : ℕ) → kept′ q ≡ (kept q || there q)) → ((q : ℕ) → left′ q ≡ (left q && not (these q)))
     → Gone x s left kept → Gone x s left′ kept′
-gone-more {x} {s} {left} {kept} {one} {there} {left′} {kept′} p here only sift join rest g = record {
-  within = λ q h. g .within q (rest-iff (left q) (one q) .0 (sym (rest q) ∙ h) .0);
+gone-more {x} {s} {left} {kept} {these} {there} {left′} {kept′} mine sift join rest g = record {
+  within = λ q h. g .within q (rest-iff (left q) (these q) .0 (sym (rest q) ∙ h) .0);
   each = λ q. (
     λ h. ⊎-elim (before q) (now-there q) (or-iff (kept q) (there q) .0 (sym (join q) ∙ h)),
     λ h. join q ∙ or-iff (kept q) (there q) .1 (⊎-elim (latest q h) (earlier q h) (true-or-false (left q))),
   );
 }
   where
-    gone : (q : ℕ) → (left q ≡ true → one q ≡ true) → left′ q ≡ false
-    gone q h = rest q ∙ implies-iff (left q) (one q) .1 h
+    gone : (q : ℕ) → (left q ≡ true → these q ≡ true) → left′ q ≡ false
+    gone q h = rest q ∙ implies-iff (left q) (these q) .1 h
 
-    before : (q : ℕ) → kept q ≡ true → (s q ≡ true) × (left′ q ≡ false) × x q q
+    before : (q : ℕ) → kept q ≡ true → (s q ≡ true) × (left′ q ≡ false) × x q
     before q h =
         let (own, past, holds) = g .each q .0 h in
         (own, gone q (λ k. absurd (off-on past k)), holds)
 
-    now-there : (q : ℕ) → there q ≡ true → (s q ≡ true) × (left′ q ≡ false) × x q q
+    now-there : (q : ℕ) → there q ≡ true → (s q ≡ true) × (left′ q ≡ false) × x q
     now-there q h =
-        let (alone, holds) = sift .each q .0 h in
-        let e : q ≡ p = only q .0 alone in
-        (g .within q (subst (λ (k : ℕ). left k ≡ true) (sym e) here), gone q (λ k. alone), subst (λ (k : ℕ). x q k) (sym e) holds)
+        let (one, holds) = sift q .0 h in
+        (g .within q (mine q one), gone q (λ k. one), holds)
 
-    latest : (q : ℕ) → (s q ≡ true) × (left′ q ≡ false) × x q q → left q ≡ true → (kept q ≡ true) ⊎ (there q ≡ true)
-    latest q h k =
-        let alone = implies-iff (left q) (one q) .0 (sym (rest q) ∙ h .1) k in
-        inr (sift .each q .1 (alone, subst (λ (v : ℕ). x q v) (only q .0 alone) (h .2)))
+    latest : (q : ℕ) → (s q ≡ true) × (left′ q ≡ false) × x q → left q ≡ true → (kept q ≡ true) ⊎ (there q ≡ true)
+    latest q h k = inr (sift q .1 (implies-iff (left q) (these q) .0 (sym (rest q) ∙ h .1) k, h .2))
 
-    earlier : (q : ℕ) → (s q ≡ true) × (left′ q ≡ false) × x q q → left q ≡ false → (kept q ≡ true) ⊎ (there q ≡ true)
+    earlier : (q : ℕ) → (s q ≡ true) × (left′ q ≡ false) × x q → left q ≡ false → (kept q ≡ true) ⊎ (there q ≡ true)
     earlier q h k = inl (g .each q .1 (h .0, k, h .2))
 
 -- `?T`, all gone over
-pub here-image : (w : World) {x : Truth} {n : ℕ} {s left kept : Set} → UpTo n s → ((q : ℕ) → left q ≡ false) → Gone x s left kept → Image (Here w x) n s kept
-unfolding ownNow
-here-image w {x} {n} {s} low none g = record {
+pub here-image : (w : World) (x : Truth) {n : ℕ} {s left kept : Set} → UpTo n s → ((q : ℕ) → left q ≡ false) → Gone (λ q. x q (ownNow w q n)) s left kept
+    → Image (Here w x) n s kept
+here-image w x {n} {s} low none g = record {
   each = λ q. (
     λ h. let (own, past, holds) = g .each q .0 h in (q, own, (refl, low q own, holds)),
     λ h.
         let e : q ≡ h .0 = h .2 .0 in
-        g .each q .1 (subst (λ (k : ℕ). s k ≡ true) (sym e) (h .1), none q, subst (λ (k : ℕ). x k k) (sym e) (h .2 .2)),
+        g .each q .1 (subst (λ (k : ℕ). s k ≡ true) (sym e) (h .1), none q, subst (λ (k : ℕ). x k (ownNow w k n)) (sym e) (h .2 .2)),
   );
 }
 

@@ -6,6 +6,7 @@ pub mod Leaf
 pub mod Seen
 pub mod Bound
 pub mod Found
+pub mod Together
 pub mod Rounds
 pub mod Chosen
 pub mod Loops

@@ -1,24 +1,28 @@
--- The evaluator's two loops over the text: what a star holds between two rounds, and a `?` between two positions, with what is kept; and what is kept of them
+-- The evaluator's two loops over the text: what a star holds between two rounds, and a `?` between two turns, with what is kept; and what is kept of them
 -- at their end.
 use mathlib.Core.Path.{_≡_, refl, sym, subst, _∙_}
-use mathlib.Core.Logic.{_↔_, _⊎_, inl, inr, ⊎-elim}
+use mathlib.Core.Logic.{_⊎_, inl, inr, ⊎-elim}
 use mathlib.Core.Bool.{Bool, true, false, not, _&&_, _||_}
 use mathlib.Core.List.{List}
-use Prim.Native.Nat.{ℕ, _+_, _≤_}
+use Prim.Native.Nat.{ℕ, _+_}
 use native.Mathlib.Omega.{arith}
 use lib.ListN.{length, getD}
 use Rattle.laws.proofs.Truth.{off-on, true-or-false, and-iff, or-iff, implies-iff}
 use Rattle.meaning.specs.Theory.{World}
 use Rattle.meaning.specs.Rule.{Walk, Test, star, ofWalk, ofTest, walkText, testText}
-use Rattle.meaning.specs.Leads.{Holds, Here, Chain, stay, link}
-use Rattle.grammar.specs.Standing.{Stands}
+use Rattle.meaning.specs.Leads.{Holds, Here, Chain, ownNow, stay, link}
+use Rattle.grammar.specs.Standing.{Stands, Ends}
 use Rattle.grammar.proofs.Spread.{Spread, spread, star-at, check-at, some-text}
 use Rattle.runs.specs.Image.{Set, UpTo, Image, Way}
+use Rattle.runs.specs.Values.{insideOf}
+use Rattle.runs.specs.Readings.{Together, Renewed}
 use Rattle.runs.specs.Found.{Tabled}
 use Rattle.runs.specs.Slots.{slot, Outside, Stored}
 use Rattle.runs.specs.Run.{Ground, led, Lies, Seen, Told, Covers, Begun, Walked, WalkKept, TestKept, HereKept}
 use Rattle.runs.proofs.Image.{rest-iff, Gone, gone-more, here-image}
 use Rattle.runs.proofs.Arms.{star-way, star-more, check-way}
+use Rattle.runs.proofs.Calls.{end-there}
+use Rattle.runs.proofs.Together.{turned}
 use Rattle.runs.proofs.Keeping.{outside-more, outside-none, outside-then, stored-outside}
 use Rattle.runs.proofs.Seen.{star-long, check-long, star-parts, seen-same, told-same, told-more, lies-low}
 
@@ -27,7 +31,7 @@ pub record Round (w : World) (bytes : List ℕ) (scope : Set) (n at : ℕ) (x : 
   pub own : (q : ℕ) → (slot before at q ≡ true) ⊎ (first q ≡ true) → (seen q ≡ true) ⊎ (new q ≡ true)
   pub sound : (q : ℕ) → (seen q ≡ true) ⊎ (new q ≡ true) → Lies w n (led g (star x) back) q
   pub closed : (p q : ℕ) → seen p ≡ true → Way w x back p q n → (seen q ≡ true) ⊎ (new q ≡ true)
-  pub told : Told w bytes scope slots
+  pub told : Told w n bytes scope slots
   pub below : Seen w n slots (at + 1) x back (led g (star x) back)
   pub outside : Outside (at + 1) (at + 1 + length (walkText x)) before slots
 
@@ -147,16 +151,16 @@ module _ {bytes : List ℕ} {at : ℕ} {back : Bool} {rows bound : List ℕ} {n 
             outside = outside-then (outside-more (omega arith) (omega (arith, star-long x)) (u .outside)) (stored-outside k (omega arith) (omega (arith, star-long x)));
           }
 
--- a `?` between two positions: of those asked in all, it holds the ones gone over where the test is true
-pub record Sift (w : World) (bytes : List ℕ) (scope : Set) (at : ℕ) (x : Test) (before slots : List ℕ) (all left held : Set) : Type 0 where
-  pub gone : Gone (Holds w x) all left held
-  pub told : Told w bytes scope slots
-  pub outside : Outside (at + 1 + 1) (at + 1 + length (testText x)) before slots
+-- a `?` between two turns: of those asked in all, it holds the ones gone over where the test is true
+pub record Sift (w : World) (n : ℕ) (bytes : List ℕ) (scope : Set) (at : ℕ) (x : Test) (before slots : List ℕ) (all left held : Set) : Type 0 where
+  pub gone : Gone (λ q. Holds w x q (ownNow w q n)) all left held
+  pub told : Told w n bytes scope slots
+  pub outside : Outside (at + 1) (at + 1 + length (testText x)) before slots
 
 pub record Sifting (bytes : List ℕ) (at : ℕ) (rows bound : List ℕ) (n : ℕ) (before slots : List ℕ) (among asked left held : Set) : Type 0 where
   pub within : (q : ℕ) → left q ≡ true → among q ≡ true
   pub found : (w : World) (scope : Set) → Tabled w rows bound n → UpTo n among → (x : Test) → Stands bytes (at + 1) (ofTest x)
-      → Covers scope at (at + 1 + length (testText x)) → Told w bytes scope before → Sift w bytes scope at x before slots (λ q. asked q || among q) left held
+      → Covers scope at (at + 1 + length (testText x)) → Told w n bytes scope before → Sift w n bytes scope at x before slots (λ q. asked q || among q) left held
 
 module _ {bytes : List ℕ} {at : ℕ} {rows bound : List ℕ} {n : ℕ} {before : List ℕ} {among asked : Set} where
   pub sifting-start : {held denied left : Set} → getD bytes at 0 ≡ 63 → ((q : ℕ) → held q ≡ slot before at q) → ((q : ℕ) → denied q ≡ slot before (at + 1) q)
@@ -164,7 +168,7 @@ module _ {bytes : List ℕ} {at : ℕ} {rows bound : List ℕ} {n : ℕ} {before
   sifting-start {held} {denied} {left} sign own behind join rest = record { within = λ q h. rest-iff (among q) (asked q) .0 (sym (rest q) ∙ h) .0; found = go }
     where
       go : (w : World) (scope : Set) → Tabled w rows bound n → UpTo n among → (x : Test) → Stands bytes (at + 1) (ofTest x)
-          → Covers scope at (at + 1 + length (testText x)) → Told w bytes scope before → Sift w bytes scope at x before before (λ q. asked q || among q) left held
+          → Covers scope at (at + 1 + length (testText x)) → Told w n bytes scope before → Sift w n bytes scope at x before before (λ q. asked q || among q) left held
       go w scope tabled low x stands covers kept = record {
         gone = record {
           within = λ q h. or-iff (asked q) (among q) .1 (inr (rest-iff (among q) (asked q) .0 (sym (rest q) ∙ h) .0));
@@ -183,24 +187,23 @@ module _ {bytes : List ℕ} {at : ℕ} {rows bound : List ℕ} {n : ℕ} {before
         outside = outside-none;
       }
 
-  -- one position more is asked, with itself for now
-  pub sifting-more : {slots after : List ℕ} {left held one there left′ held′ : Set} (p : ℕ) → left p ≡ true → ((q : ℕ) → (one q ≡ true) ↔ (q ≡ p))
-      → TestKept bytes (at + 1) rows bound p slots after one there → ((q : ℕ) → held′ q ≡ (held q || there q)) → ((q : ℕ) → left′ q ≡ (left q && not (one q)))
+  -- some positions more are asked, with their own now
+  pub sifting-more : {ends : List ℕ} (marked : Ends bytes ends) {end : ℕ} (ending : end ≡ getD ends (at + 1) 0) {slots clean tested after inner : List ℕ}
+      {left held these there left′ held′ : Set} {own : ℕ} → Together left n bound own these → inner ≡ insideOf bound → Renewed bound slots (at + 1) end clean
+      → TestKept bytes (at + 1) rows inner own clean tested these there → Renewed bound tested (at + 1) end after
+      → ((q : ℕ) → held′ q ≡ (held q || there q)) → ((q : ℕ) → left′ q ≡ (left q && not (these q)))
       → Sifting bytes at rows bound n before slots among asked left held → Sifting bytes at rows bound n before after among asked left′ held′
-  sifting-more {slots} {after} {left} {held} {one} {there} {left′} {held′} p here only f join rest a = record {
-    within = λ q h. a .within q (rest-iff (left q) (one q) .0 (sym (rest q) ∙ h) .0);
+  sifting-more marked {end} ending {slots} {clean} {tested} {after} {inner} {left} {held} {these} {there} {left′} {held′} turn same fresh f again join rest a = record {
+    within = λ q h. a .within q (rest-iff (left q) (these q) .0 (sym (rest q) ∙ h) .0);
     found = go;
   }
     where
       go : (w : World) (scope : Set) → Tabled w rows bound n → UpTo n among → (x : Test) → Stands bytes (at + 1) (ofTest x)
-          → Covers scope at (at + 1 + length (testText x)) → Told w bytes scope before → Sift w bytes scope at x before after (λ q. asked q || among q) left′ held′
+          → Covers scope at (at + 1 + length (testText x)) → Told w n bytes scope before → Sift w n bytes scope at x before after (λ q. asked q || among q) left′ held′
       go w scope tabled low x stands covers kept =
           let u = a .found w scope tabled low x stands covers kept in
-          let early : p ≤ n = low p (a .within p here) in
-          let own : Tabled w rows bound p = record { described = tabled .described; logged = omega (arith, tabled .logged); room = tabled .room; bears = tabled .bears } in
-          let alone : UpTo p one = λ q k. omega (arith, only q .0 k) in
-          let t = f .found w scope own alone x stands (λ i low high. covers i (omega arith) high) (u .told) in
-          record { gone = gone-more p here only (t .sifted) join rest (u .gone); told = t .told; outside = outside-then (u .outside) (t .outside) }
+          let t = turned at turn same fresh f again w scope tabled (λ q h. low q (a .within q h)) x stands (end-there marked stands end ending) covers (u .told) in
+          record { gone = gone-more (turn .within) (t .sift) join rest (u .gone); told = t .told; outside = outside-then (u .outside) (t .outside) }
 
   -- all asked: where it is true is kept, and where it is not, and of the set what is true is answered
   pub sifting-done : {slots middle after : List ℕ} {left held all denied answer : Set} → getD bytes at 0 ≡ 63 → ((q : ℕ) → left q ≡ false)
@@ -210,8 +213,8 @@ module _ {bytes : List ℕ} {at : ℕ} {rows bound : List ℕ} {n : ℕ} {before
   sifting-done {slots} {middle} {after} {left} {held} {all} {denied} {answer} sign none a join rest one two meet =
       record { found = λ back. record { found = λ w scope x g b. go back w scope g (spread (b .stands) 63 sign) b } }
     where
-      image : (w : World) (x : Test) → UpTo n among → Gone (Holds w x) (λ q. asked q || among q) left held → Image (Here w (Holds w x)) n among answer
-      image w x low gone = here-image w {x = Holds w x} {left = left} low none (record {
+      image : (w : World) (x : Test) → UpTo n among → Gone (λ q. Holds w x q (ownNow w q n)) (λ q. asked q || among q) left held → Image (Here w (Holds w x)) n among answer
+      image w x low gone = here-image w (Holds w x) {left = left} low none (record {
         within = λ q h. absurd (off-on (none q) h);
         each = λ q. (
           λ h. let (i, j) = and-iff (among q) (held q) .0 (sym (meet q) ∙ h) in (i, none q, gone .each q .0 j .2),
@@ -224,7 +227,7 @@ module _ {bytes : List ℕ} {at : ℕ} {rows bound : List ℕ} {n : ℕ} {before
       go back w scope g (check-at t p) b =
           let u = a .found w scope (b .tabled) (b .low) t p (λ i low high. b .covers i low (omega (arith, check-long t))) (b .told) in
           let i = image w t (b .low) (u .gone) in
-          let not-true : (q : ℕ) → denied q ≡ true → ¬ Holds w t q q
+          let not-true : (q : ℕ) → denied q ≡ true → ¬ Holds w t q (ownNow w q n)
           = λ q h k. let (in-all, out) = rest-iff (all q) (held q) .0 (sym (rest q) ∙ h) in
           off-on out (u .gone .each q .1 (sym (join q) ∙ in-all, none q, k)) in
           record {

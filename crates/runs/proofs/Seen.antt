@@ -1,25 +1,27 @@
 -- What stars have seen and what tests have told, while the table changes: both stay where their own slots do, and cleared slots are right for every ground.
 -- Opens the text of a rule; knows no code.
-use mathlib.Core.Path.{_≡_, refl, sym, ap, subst, _∙_}
+use mathlib.Core.Path.{_≡_, refl, sym, ap, ap₂, subst, subst⁻¹, _∙_}
 use mathlib.Core.Logic.{_⊎_, inl, inr}
-use mathlib.Core.Bool.{Bool, true, false, not}
+use mathlib.Core.Bool.{Bool, true, false, not, _&&_}
 use mathlib.Core.List.{List}
 use Prim.Native.Nat.{ℕ, _+_, _≤_, _<_}
 use native.Mathlib.Omega.{arith}
-use native.Mathlib.Decide.{ℕ-discrete}
+use native.Mathlib.Decide.{ℕ-discrete, decLe, decLt}
+use lib.Dec.{leb, ltb}
 use lib.ListN.{length, drop, getD, length-append}
+use borrow.Author.Tests.{leb-true, ltb-true, le-leb, lt-ltb}
 use Rattle.laws.specs.Bit.{on}
-use Rattle.laws.proofs.Truth.{off-on}
+use Rattle.laws.proofs.Truth.{off-on, and-iff}
 use Rattle.meaning.specs.Theory.{World}
 use Rattle.meaning.specs.Rule.{Variable, Walk, Test, act, undo, next, prev, seq, alt, star, check, conv, pick, neg, both, diamond, exists, ofWalk, ofTest, walkText, testText}
 use Rattle.meaning.specs.Rule.{testKind, Opens}
 use Rattle.meaning.proofs.Reading.{unique-reading}
-use Rattle.meaning.specs.Leads.{Holds}
+use Rattle.meaning.specs.Leads.{Truth, Holds, ownNow}
 use Rattle.grammar.specs.Standing.{Stands}
 use Rattle.grammar.proofs.Spread.{Spread, spread, seq-at, alt-at, star-at, conv-at, always-at, fluent-at, neg-at, both-at, diamond-at, sum-fluent-at, exists-at}
 use Rattle.runs.specs.Image.{Set}
-use Rattle.runs.specs.Slots.{slot, Stored}
-use Rattle.runs.specs.Run.{Ground, led, Lies, Chained, Seen, Told}
+use Rattle.runs.specs.Slots.{slot, Outside, Stored}
+use Rattle.runs.specs.Run.{Ground, led, Lies, Chained, Seen, Told, Covers}
 use Rattle.runs.proofs.Arms.{way-within}
 use Rattle.runs.proofs.Keeping.{empty-slot}
 
@@ -187,9 +189,9 @@ seen-none w n bytes l (pick v x) back g at s e = tt
 seen-none w n bytes l (conv x) back g at s e = seen-none w n bytes l x (not back) g (at + 1) (conv-parts s) (λ j low high. e j (omega arith) (omega (arith, conv-long x)))
 
 -- what tests have told stays where each slot of theirs does, or has nothing any more
-pub told-fewer : {w : World} {bytes : List ℕ} {scope : Set} {l : List ℕ} (m : List ℕ)
-    → ((j : ℕ) → (getD bytes j 0 ≡ 42 → ⊥) → (getD m j 0 ≡ getD l j 0) ⊎ (getD m j 0 ≡ 0)) → Told w bytes scope l → Told w bytes scope m
-told-fewer {w} {bytes} {scope} {l} m e h = record {
+pub told-fewer : {w : World} {n : ℕ} {bytes : List ℕ} {scope : Set} {l : List ℕ} (m : List ℕ)
+    → ((j : ℕ) → (getD bytes j 0 ≡ 42 → ⊥) → (getD m j 0 ≡ getD l j 0) ⊎ (getD m j 0 ≡ 0)) → Told w n bytes scope l → Told w n bytes scope m
+told-fewer {l = l} m e h = record {
   each = λ i within sign x stands p.
       let u = h .each i within sign x stands p in (
         λ k. u .0 (stays i p (e i (λ star. omega (arith, sign, star))) k),
@@ -202,12 +204,12 @@ told-fewer {w} {bytes} {scope} {l} m e h = record {
     stays j p (inr none) k = absurd (off-on (empty-slot m j none p) k)
 
 -- they stand in slots that are no star's
-pub told-same : {w : World} {bytes : List ℕ} {scope : Set} {l : List ℕ} (m : List ℕ) → ((j : ℕ) → (getD bytes j 0 ≡ 42 → ⊥) → getD m j 0 ≡ getD l j 0)
-    → Told w bytes scope l → Told w bytes scope m
+pub told-same : {w : World} {n : ℕ} {bytes : List ℕ} {scope : Set} {l : List ℕ} (m : List ℕ) → ((j : ℕ) → (getD bytes j 0 ≡ 42 → ⊥) → getD m j 0 ≡ getD l j 0)
+    → Told w n bytes scope l → Told w n bytes scope m
 told-same m e h = told-fewer m (λ j not-star. inl (e j not-star)) h
 
 -- in a scope whose slots are empty, nothing is told
-pub told-none : {w : World} {bytes l : List ℕ} {scope : Set} → ((j : ℕ) → scope j ≡ true → (getD l j 0 ≡ 0) × (getD l (j + 1) 0 ≡ 0)) → Told w bytes scope l
+pub told-none : {w : World} {n : ℕ} {bytes l : List ℕ} {scope : Set} → ((j : ℕ) → scope j ≡ true → (getD l j 0 ≡ 0) × (getD l (j + 1) 0 ≡ 0)) → Told w n bytes scope l
 told-none {l = l} e = record {
   each = λ i within sign x stands p. (
     λ k. absurd (off-on (empty-slot l i (e i within .0) p) k),
@@ -215,27 +217,65 @@ told-none {l = l} e = record {
   );
 }
 
+-- A part that is a scope of its own.
+abbrev pub Within : ℕ → ℕ → Set
+Within from to i = leb from i && ltb (i + 1) to
+
+pub within-covers : (from to : ℕ) → Covers (Within from to) from to
+within-covers from to i low high = and-iff (leb from i) (ltb (i + 1) to) .1 (le-leb from i low, lt-ltb (i + 1) to high)
+
+-- the slots between two places have nothing
+abbrev pub Bare : List ℕ → ℕ → ℕ → Type 0
+Bare slots from to = (j : ℕ) → from ≤ j → j < to → getD slots j 0 ≡ 0
+
+pub within-told : {w : World} {n : ℕ} {bytes slots : List ℕ} (from to : ℕ) → Bare slots from to → Told w n bytes (Within from to) slots
+within-told from to bare = told-none (λ j there.
+    let (low, high) = and-iff (leb from j) (ltb (j + 1) to) .0 there in
+    let above : from ≤ j = leb-true from j low in
+    let below : j + 1 < to = ltb-true (j + 1) to high in
+    (bare j above (omega arith), bare (j + 1) (omega arith) below))
+
+-- what is told outside stays so, where the part's slots have nothing at the end
+pub bare-told : {w : World} {n : ℕ} {bytes : List ℕ} {scope : Set} {before slots : List ℕ} (from to : ℕ) → Bare slots from to → Outside from to before slots → Told w n bytes scope before
+    → Told w n bytes scope slots
+bare-told {before = before} {slots = slots} from to bare o told = told-fewer slots (λ j star. go j (decLe from j) (decLt j to)) told
+  where
+    go : (j : ℕ) → Dec (from ≤ j) → Dec (j < to) → (getD slots j 0 ≡ getD before j 0) ⊎ (getD slots j 0 ≡ 0)
+    go j (yes low) (yes high) = inr (bare j low high)
+    go j (yes low) (no high) = inl (o .same j (inr (omega arith)))
+    go j (no low) high = inl (o .same j (inl (omega arith)))
+
+-- what is told in one world at one now is told in another at another, where tests say the same in both
+pub told-as : (w v : World) (n m : ℕ) {bytes : List ℕ} {scope : Set} {l : List ℕ} → ((x : Test) → Holds w x ≡ Holds v x) → ((p : ℕ) → ownNow w p n ≡ ownNow v p m)
+    → Told w n bytes scope l → Told v m bytes scope l
+told-as w v n m same now h = record {
+  each = λ i within sign x stands p.
+      let u = h .each i within sign x stands p in
+      let there : Holds w x p (ownNow w p n) ≡ Holds v x p (ownNow v p m) = ap₂ (λ (t : Truth) (k : ℕ). t p k) (same x) (now p) in
+      (λ k. subst (λ (t : Type 0). t) there (u .0 k), λ k y. u .1 k (subst⁻¹ (λ (t : Type 0). t) there y));
+}
+
 -- what the slots of a `?` tell of its test at a position
-abbrev Right : World → List ℕ → ℕ → Test → ℕ → Type 0
-Right w k i x p = (slot k i p ≡ true → Holds w x p p) × (slot k (i + 1) p ≡ true → ¬ Holds w x p p)
+abbrev Right : World → ℕ → List ℕ → ℕ → Test → ℕ → Type 0
+Right w n k i x p = (slot k i p ≡ true → Holds w x p (ownNow w p n)) × (slot k (i + 1) p ≡ true → ¬ Holds w x p (ownNow w p n))
 
 -- a `?` keeps where its test is true, and behind it where that is not
-pub told-more : {w : World} {bytes : List ℕ} {scope : Set} {l m k : List ℕ} {at : ℕ} {t : Test} {held denied : Set} → getD bytes at 0 ≡ 63 → Stands bytes (at + 1) (ofTest t)
-    → ((p : ℕ) → held p ≡ true → Holds w t p p) → ((p : ℕ) → denied p ≡ true → ¬ Holds w t p p) → Stored l at held m → Stored m (at + 1) denied k
-    → Told w bytes scope l → Told w bytes scope k
-told-more {w} {bytes} {scope} {l} {m} {k} {at} {t} {held} {denied} sign stands yes-there not-there one two h = record {
+pub told-more : {w : World} {n : ℕ} {bytes : List ℕ} {scope : Set} {l m k : List ℕ} {at : ℕ} {t : Test} {held denied : Set} → getD bytes at 0 ≡ 63 → Stands bytes (at + 1) (ofTest t)
+    → ((p : ℕ) → held p ≡ true → Holds w t p (ownNow w p n)) → ((p : ℕ) → denied p ≡ true → ¬ Holds w t p (ownNow w p n)) → Stored l at held m → Stored m (at + 1) denied k
+    → Told w n bytes scope l → Told w n bytes scope k
+told-more {w} {n} {bytes} {scope} {l} {m} {k} {at} {t} {held} {denied} sign stands yes-there not-there one two h = record {
   each = λ i within s x there p. go i within s x there p (ℕ-discrete i at);
 }
   where
-    own : (p : ℕ) → Right w k at t p
+    own : (p : ℕ) → Right w n k at t p
     own p =
         let same : slot k at p ≡ slot m at p = ap (λ (word : ℕ). on word p) (two .other at (λ e. omega (arith, e))) in
         (λ a. yes-there p (one .own p .0 (sym same ∙ a) .1), λ a. not-there p (two .own p .0 a .1))
 
-    go : (i : ℕ) → scope i ≡ true → getD bytes i 0 ≡ 63 → (x : Test) → Stands bytes (i + 1) (ofTest x) → (p : ℕ) → Dec (i ≡ at) → Right w k i x p
+    go : (i : ℕ) → scope i ≡ true → getD bytes i 0 ≡ 63 → (x : Test) → Stands bytes (i + 1) (ofTest x) → (p : ℕ) → Dec (i ≡ at) → Right w n k i x p
     go i within s x there p (yes e) =
         let there′ = subst (λ (j : ℕ). Stands bytes (j + 1) (ofTest x)) e there in
-        subst (λ (j : ℕ). Right w k j x p) (sym e) (subst (λ (y : Test). Right w k at y p) (one-test-there t x stands there′) (own p))
+        subst (λ (j : ℕ). Right w n k j x p) (sym e) (subst (λ (y : Test). Right w n k at y p) (one-test-there t x stands there′) (own p))
     go i within s x there p (no apart) =
         let not-behind : i ≡ at + 1 → ⊥ = λ e. test-sign stands .1 (subst (λ (j : ℕ). getD bytes j 0 ≡ 63) e s) in
         let not-before : i + 1 ≡ at → ⊥ = λ e. test-sign there .1 (subst (λ (j : ℕ). getD bytes j 0 ≡ 63) (sym e) sign) in

@@ -9,7 +9,7 @@ use Rattle.laws.specs.Bit.{on}
 use Rattle.meaning.specs.Limits.{actionLimit}
 use Rattle.meaning.specs.Theory.{World}
 use Rattle.meaning.specs.Rule.{Walk, Test, act, undo, next, prev, seq, alt, star, check, conv, pick, ofWalk, ofTest, walkText, testText}
-use Rattle.meaning.specs.Leads.{Holds}
+use Rattle.meaning.specs.Leads.{Holds, ownNow}
 use Rattle.meaning.specs.Asks.{AsksAt}
 use Rattle.grammar.specs.Standing.{Stands}
 use Rattle.runs.specs.Image.{Set, UpTo, Sifted, Way}
@@ -45,11 +45,12 @@ Seen w n slots at (check t) back g = Unit {0}
 Seen w n slots at (conv x) back g = Seen w n slots (at + 1) x (not back) g
 Seen w n slots at (pick v x) back g = Unit {0}
 
--- A `?` of a scope keeps where its test is true, and behind that where it is not; each position is its own now, so that this holds for every run. A part under
--- a binder is a scope of its own, in a world of its own.
-pub record Told (w : World) (bytes : List ℕ) (scope : Set) (slots : List ℕ) : Type 0 where
+-- A `?` of a scope keeps where its test is true, and behind that where it is not: under `step` each position is its own now, so that this holds for every run, and
+-- under `end` every run of a scope has one now. A part under a binder is a scope of its own, in a world of its own; and so is the test of a job's own `?` where those
+-- inside it are read otherwise.
+pub record Told (w : World) (n : ℕ) (bytes : List ℕ) (scope : Set) (slots : List ℕ) : Type 0 where
   pub each : (i : ℕ) → scope i ≡ true → getD bytes i 0 ≡ 63 → (x : Test) → Stands bytes (i + 1) (ofTest x) → (p : ℕ)
-      → (slot slots i p ≡ true → Holds w x p p) × (slot slots (i + 1) p ≡ true → ¬ Holds w x p p)
+      → (slot slots i p ≡ true → Holds w x p (ownNow w p n)) × (slot slots (i + 1) p ≡ true → ¬ Holds w x p (ownNow w p n))
 
 -- a scope has every place of a stretch where a sign with a part can stand
 abbrev pub Covers : Set → ℕ → ℕ → Type 0
@@ -62,21 +63,22 @@ pub record Begun (w : World) (bytes : List ℕ) (scope : Set) (rows bound : List
   pub stands : Stands bytes at (ofWalk x)
   pub ground : (q : ℕ) → from q ≡ true → Lies w n g q
   pub covers : Covers scope at (at + length (walkText x))
-  pub told : Told w bytes scope slots
+  pub told : Told w n bytes scope slots
   pub seen : Seen w n slots at x back g
 
 -- the answer has where it leads from the set, and nothing but where it leads from its ground; the slots are still right, and no other is changed
 pub record Walked (w : World) (bytes : List ℕ) (scope : Set) (n at : ℕ) (x : Walk) (back : Bool) (g : Ground) (before after : List ℕ) (from answer : Set) : Type 0 where
   pub least : (p q : ℕ) → from p ≡ true → Way w x back p q n → answer q ≡ true
   pub most : (q : ℕ) → answer q ≡ true → Lies w n (led g x back) q
-  pub told : Told w bytes scope after
+  pub told : Told w n bytes scope after
   pub seen : Seen w n after at x back g
   pub outside : Outside at (at + length (walkText x)) before after
 
--- a test asks nothing of what stars have seen; it has runs of its own
+-- A test asks nothing of what stars have seen; it has runs of its own. It has no tests of its own: all are inside a `<`, and so it is asked in a world that has one
+-- reading.
 pub record Tested (w : World) (bytes : List ℕ) (scope : Set) (n at : ℕ) (x : Test) (before after : List ℕ) (among answer : Set) : Type 0 where
   pub sifted : Sifted (Holds w x) n among answer
-  pub told : Told w bytes scope after
+  pub told : Told w n bytes scope after
   pub outside : Outside (at + 1) (at + length (testText x)) before after
 
 -- What the evaluator's functions answer, for every world that the rows describe, every rule that stands at the place and every ground that the slots are right for.
@@ -84,8 +86,8 @@ pub record WalkKept (bytes : List ℕ) (at : ℕ) (back : Bool) (rows bound : Li
   pub found : (w : World) (scope : Set) (x : Walk) (g : Ground) → Begun w bytes scope rows bound n at x back g before from → Walked w bytes scope n at x back g before after from answer
 
 pub record TestKept (bytes : List ℕ) (at : ℕ) (rows bound : List ℕ) (n : ℕ) (before after : List ℕ) (among answer : Set) : Type 0 where
-  pub found : (w : World) (scope : Set) → Tabled w rows bound n → UpTo n among → (x : Test) → Stands bytes at (ofTest x)
-      → Covers scope at (at + length (testText x)) → Told w bytes scope before
+  pub found : (w : World) (scope : Set) → w .own ≡ w .inner → Tabled w rows bound n → UpTo n among → (x : Test) → Stands bytes at (ofTest x)
+      → Covers scope at (at + length (testText x)) → Told w n bytes scope before
       → Tested w bytes scope n at x before after among answer
 
 -- a `?`, the same both ways

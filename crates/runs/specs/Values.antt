@@ -1,13 +1,14 @@
--- What the evaluator is given of variables: the values that `v`, `w`, `x`, `y` stand for, and behind them how many values there are ("Values are 0 to
--- NN-1"), as a list of five numbers. Knows the letters' order, and no rule's meaning.
+-- What the evaluator is given beside the log: the values that `v`, `w`, `x`, `y` stand for, behind them how many values there are ("Values are 0 to NN-1"), and
+-- behind that how a walk's own tests are read and how those inside a `<` are, as a list of seven numbers. Knows the letters' order, and no rule's meaning.
 use mathlib.Core.Path.{_≡_}
 use mathlib.Core.Logic.{_⊎_}
 use mathlib.Core.Bool.{false}
 use mathlib.Core.List.{List, [], _∷_}
 use Prim.Native.Nat.{ℕ, _+_, _≤_, _<_}
-use lib.ListN.{length, getD}
+use lib.ListN.{length, getD, set}
 use Rattle.meaning.specs.Theory.{World, standsFor}
 use Rattle.meaning.specs.Rule.{Variable, Rule, text, freeIn}
+use Rattle.theory.specs.Subject.{readingOf}
 use Rattle.spelling.specs.declared.Digits.the-variants.{Number}
 use Rattle.spelling.specs.Scan.{NumberAt}
 use Rattle.grammar.specs.Letters.{variables, place, Lettered}
@@ -21,15 +22,28 @@ domainIn bound = getD bound (length variables) 0
 abbrev pub valueIn : List ℕ → Variable → ℕ
 valueIn bound v = getD bound (place v) 0
 
+-- so a walk's own tests are read, and so those inside a `<`
+abbrev pub ownIn : List ℕ → ℕ
+ownIn bound = getD bound (length variables + 1) 0
+
+abbrev pub innerIn : List ℕ → ℕ
+innerIn bound = getD bound (length variables + 2) 0
+
 -- no variable is bound: each stands for 0
-abbrev pub unbound : ℕ → List ℕ
-unbound domain = 0 ∷ 0 ∷ 0 ∷ 0 ∷ domain ∷ []
+abbrev pub unbound : ℕ → ℕ → ℕ → List ℕ
+unbound domain own inner = 0 ∷ 0 ∷ 0 ∷ 0 ∷ domain ∷ own ∷ inner ∷ []
+
+-- the same inside a `<`
+abbrev pub insideOf : List ℕ → List ℕ
+insideOf bound = set bound (length variables + 1) (innerIn bound)
 
 -- these are the world's
 pub record Bears (w : World) (bound : List ℕ) : Type 0 where
-  pub room : length variables < length bound
+  pub room : length variables + 2 < length bound
   pub many : w .domain ≡ domainIn bound
   pub stand : (v : Variable) → standsFor (w .values) v ≡ valueIn bound v
+  pub own : w .own ≡ readingOf (ownIn bound)
+  pub inner : w .inner ≡ readingOf (innerIn bound)
 
 -- the letter of some variable stands at the place
 pub record LetterHere (bytes : List ℕ) (at : ℕ) : Type 0 where

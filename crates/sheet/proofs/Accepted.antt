@@ -18,7 +18,7 @@ use Rattle.meaning.proofs.Refusal.{accepts, passes, not-first, not-rest}
 use Rattle.rule.specs.Outcome.{ruleRows}
 use Rattle.sheet.specs.Line.{Judge, Form, Says, judgeRows, lineRows}
 use Rattle.sheet.specs.Forms.{startForm, actForm, ruleForm}
-use Rattle.sheet.specs.Lines.{Sheet, Lines, opened, actLines, belowActs, fromLog, fromStart, ReadAs, SheetSays}
+use Rattle.sheet.specs.Lines.{Sheet, Lines, opened, withLog, withReading, fromAsk, actLines, belowActs, fromLog, fromStart, ReadAs, SheetSays}
 use Rattle.sheet.specs.Versions.{versionOf, tableOf}
 use Rattle.sheet.specs.declared.Version.{Version}
 use Rattle.sheet.specs.Sections.{Ranged}
@@ -29,7 +29,7 @@ use Rattle.theory.specs.declared.Setting.{Setting}
 use Rattle.sheet.specs.Legal.{Legal}
 use Rattle.sheet.proofs.VersionRows.{usable, callable}
 use Rattle.sheet.proofs.Widen.{table-long, table-known}
-use Rattle.sheet.proofs.Domain.{past-domain}
+use Rattle.sheet.proofs.LineIf.{past-domain, past-now}
 use Rattle.sheet.proofs.Rows.{Clean}
 use Rattle.sheet.proofs.RuleLine.{counts-good}
 
@@ -101,14 +101,15 @@ rule-of key kind counts bytes at text good says acc =
     let clean = clean-of (ruleForm key kind counts) bytes at text says acc in
     passes good (passes (says .inRange) (passes (clean .0) (passes (clean .1 .0) (passes (clean .1 .1 .0) (passes (clean .1 .1 .1 .0) accepts)))))
 
--- what the head and the table say, and the last four lines, make a legal sheet
+-- what the head and the table say, and the lines below, make a legal sheet
 last-legal :
     (v : Version) (setting : Setting) (masks bytes : List ℕ) (at : ℕ) (sheet : Sheet) → v .log ≡ logLimit → Ranged (setting .counts)
     → (NamesLacking (setting .counts .fluents) (setting .start) → ⊥) → length masks ≡ stride * setting .counts .actions
     → (OneLacking (setting .counts .fluents) masks → ⊥) → ReadAs (fromLog v (opened setting masks)) bytes at sheet → Legal sheet
 unfolding ReadAs
 last-legal v setting masks bytes at sheet call ranged known long none-lacks log =
-    let ask = log .3 in
+    let read = past-now (v .reading) (λ reading. fromAsk (withReading (withLog (opened setting masks) (log .0)) reading)) bytes _ sheet (log .3) in
+    let ask = read .reads in
     let run = ask .3 in
     let more = run .3 in
     let good = counts-good (setting .counts) ranged in
@@ -117,7 +118,7 @@ last-legal v setting masks bytes at sheet call ranged known long none-lacks log 
     subst Legal (sym (more .3 .1))
     (record {
       world =
-          passes (⊎-elim good (λ bad. bad long)) (passes (⊎-elim known none-lacks) (passes short accepts));
+          passes (⊎-elim (⊎-elim good (λ bad. omega (arith, bad, read .good))) (λ bad. bad long)) (passes (⊎-elim known none-lacks) (passes short accepts));
       ask = rule-of _ _ (setting .counts) bytes _ (ask .0) good (ask .1) (ask .2);
       run = rule-of _ _ (setting .counts) bytes _ (run .0) good (run .1) (run .2);
       more = λ bad. omega (arith, bad, more .1 .inRange .1);
@@ -133,7 +134,7 @@ legal bytes sheet s =
     let valued =
     past-domain (v .valued) (λ domain. fromStart v (record { fluents = fluents .0; actions = actions .0; domain = domain })) bytes _ sheet (actions .3) in
     let start = valued .reads in
-    let setting = settingOf (fluents .0) (actions .0) (valued .domain) (start .0) in
+    let setting = settingOf (fluents .0) (actions .0) (valued .said) (start .0) 0 in
     let t =
     acts-table v (fluents .0) (actions .0) [] (belowActs v setting) bytes _ sheet (λ h. absurd (omega (arith, h .there)))
     (start .3) in
@@ -142,7 +143,7 @@ legal bytes sheet s =
       fewFluents = fluents .1 .inRange .1;
       someActions = actions .1 .inRange .0;
       fewActions = actions .1 .inRange .1;
-      fewValues = valued .few;
+      fewValues = valued .good;
     })
     (clean-of (startForm (fluents .0)) bytes _ (start .0) (start .1) (start .2) .0)
     (table-long v (usable number) (actions .0) (t .masks) (omega (arith, t .long)))

@@ -41,9 +41,9 @@ row-within h a l =
     let most : masksOf h (a + 1) ≤ masksIn h = mul-le-mul-left (h .version .masks) (omega arith) in
     omega (arith, next-row h a, most)
 
--- a head with these counts, whatever its domain and its start state are
-abbrev pub headBy : Version → ℕ → ℕ → Cursor → ℕ → ℕ → Head
-headBy v fluents actions last domain start = record { version = v; setting = settingOf fluents actions domain start; last = last }
+-- a head with these counts, whatever its domain, its start state and its reading are
+abbrev pub headBy : Version → ℕ → ℕ → Cursor → ℕ → ℕ → ℕ → Head
+headBy v fluents actions last domain start reading = record { version = v; setting = settingOf fluents actions domain start reading; last = last }
 
 -- the lines that are still to come after some actions, which left this table
 abbrev toCome : Head → List ℕ → ℕ → Lines

@@ -10,7 +10,9 @@ use Rattle.refusal.proofs.Numbers.{one-number}
 use Rattle.meaning.proofs.Refusal.{refused-unique, refused-not-accepted}
 use Rattle.rule.specs.Outcome.{PartAt}
 use Rattle.theory.specs.Subject.{countsOf, settingOf}
-use Rattle.sheet.specs.Lines.{Sheet, Lines, line, none, opened, actLines, belowActs, fromLog, domainThen, fromStart, sheetLines, valueAt, nextAt, ReadAs, FaultIn, SheetRefused, SheetSays}
+use Rattle.sheet.specs.Lines.{Sheet, Lines, line, none, opened, lineIf, withLog, withReading, fromAsk, actLines, belowActs, fromLog, fromStart, sheetLines, valueAt, nextAt, ReadAs, FaultIn, SheetRefused, SheetSays}
+use Rattle.sheet.specs.Line.{Form}
+use Rattle.sheet.specs.Forms.{domainForm, nowForm}
 use Rattle.sheet.specs.Versions.{versionOf, tableOf}
 use Rattle.sheet.specs.declared.Version.{Version}
 use Rattle.theory.specs.declared.Counts.{Counts}
@@ -18,7 +20,7 @@ use Rattle.sheet.specs.Answer.{parsedOf, fronted, SheetAnswered}
 use Rattle.sheet.specs.declared.SheetAnswer.{SheetAnswer}
 use Rattle.sheet.specs.declared.SheetAnswer.the-variants.{Faulty, Read}
 use Rattle.sheet.proofs.Rows.{Clear, one-said}
-use Rattle.sheet.proofs.Forms.{number-clear, start-clear, act-clear, log-clear, rule-clear}
+use Rattle.sheet.proofs.Forms.{number-clear, start-clear, act-clear, log-clear, now-clear, rule-clear}
 
 -- every line that can come is clear
 abbrev AllClear : Lines → Type 0
@@ -69,26 +71,33 @@ acts-clear v fluents zero table next clear = clear table
 acts-clear v fluents (suc actions) table next clear =
     (act-clear v fluents, λ row range at. acts-clear v fluents actions (table ++ row) next clear)
 
+if-clear :
+    (there : Bool) (form : Form) (other : form .Value) (next : form .Value → Lines) → Clear form → ((said : form .Value) → AllClear (next said))
+    → AllClear (lineIf there form other next)
+if-clear true form other next clear below = (clear, λ said _ _. below said)
+if-clear false form other next clear below = below other
+
+ask-clear : (s : Sheet) → AllClear (fromAsk s)
+ask-clear s = (
+  rule-clear [] _ (countsOf (s .subject)),
+  λ ask _ _. (rule-clear [] _ (countsOf (s .subject)), λ run _ _. (number-clear [] 1 _ _ (omega arith), λ more _ _. tt)),
+)
+
 last-clear : (v : Version) (s : Sheet) → AllClear (fromLog v s)
 last-clear v s = (
   log-clear v (countsOf (s .subject) .actions),
-  λ log _ _. (
-    rule-clear [] _ (countsOf (s .subject)),
-    λ ask _ _. (rule-clear [] _ (countsOf (s .subject)), λ run _ _. (number-clear [] 1 _ _ (omega arith), λ more _ _. tt)),
-  ),
+  λ log _ _.
+      if-clear (v .reading) nowForm 0 (λ reading. fromAsk (withReading (withLog s log) reading)) now-clear
+      (λ reading. ask-clear (withReading (withLog s log) reading)),
 )
 
 start-lines-clear : (v : Version) (c : Counts) → AllClear (fromStart v c)
 start-lines-clear v c = (
   start-clear (c .fluents),
   λ start _ _.
-      let s = settingOf (c .fluents) (c .actions) (c .domain) start in
+      let s = settingOf (c .fluents) (c .actions) (c .domain) start 0 in
       acts-clear v (c .fluents) (c .actions) [] (belowActs v s) (λ masks. last-clear v (opened s (tableOf v (c .actions) masks))),
 )
-
-domain-clear : (valued : Bool) (next : ℕ → Lines) → ((domain : ℕ) → AllClear (next domain)) → AllClear (domainThen valued next)
-domain-clear true next clear = (number-clear [] 2 _ _ (omega arith), λ domain _ _. clear domain)
-domain-clear false next clear = clear 0
 
 sheet-clear : AllClear sheetLines
 sheet-clear = (
@@ -100,7 +109,7 @@ sheet-clear = (
       λ actions _ _.
           let v = versionOf number in
           let counts : ℕ → Counts = λ domain. record { fluents = fluents; actions = actions; domain = domain } in
-          domain-clear (v .valued) (λ domain. fromStart v (counts domain)) (λ domain. start-lines-clear v (counts domain)),
+          if-clear (v .valued) domainForm 0 (λ domain. fromStart v (counts domain)) (number-clear [] 2 _ _ (omega arith)) (λ domain. start-lines-clear v (counts domain)),
     ),
   ),
 )

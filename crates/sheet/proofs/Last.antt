@@ -1,5 +1,6 @@
--- Laws of the last four lines: each adds what it says to what the lines above say, and what is found below it is found of it.
+-- Laws of the lines below those of the actions: each adds what it says to what the lines above say, and what is found below it is found of it.
 use mathlib.Core.Path.{_≡_, refl, sym, ap, _∙_, subst}
+use mathlib.Core.Bool.{Bool, true, false}
 use mathlib.Core.List.{List}
 use Prim.Native.Nat.{ℕ, _+_, _≤_}
 use native.Mathlib.Omega.{arith}
@@ -8,10 +9,10 @@ use lib.Seq.{length-take-le}
 use Rattle.theory.specs.Subject.{Subject}
 use Rattle.spelling.specs.Scan.{stretch}
 use Rattle.spelling.proofs.Stretch.{length-stretch}
-use Rattle.sheet.specs.Forms.{logForm, askForm, runForm, moreForm}
-use Rattle.sheet.specs.Lines.{Sheet, Lines, none, withLog, withAsk, withRun, withMore, fromMore, fromRun, fromAsk, fromLog}
+use Rattle.sheet.specs.Forms.{logForm, nowForm, askForm, runForm, moreForm}
+use Rattle.sheet.specs.Lines.{Sheet, Lines, none, withLog, withReading, withAsk, withRun, withMore, fromMore, fromRun, fromAsk, nowThen, fromNow, fromLog}
 use Rattle.sheet.specs.Found.{CursorAt, Accepts}
-use Rattle.sheet.specs.Answer.{parsedOf, fronted}
+use Rattle.sheet.specs.Answer.{parsedOf, readAs, fronted}
 use Rattle.sheet.specs.Onward.{Onward}
 use Rattle.sheet.specs.Sections.{SheetFound, LogFound}
 use Rattle.sheet.specs.declared.Cursor.{Cursor}
@@ -28,7 +29,8 @@ sheet-found :
     {whole rest : Lines} {bytes : List ℕ} {at line at′ line′ : ℕ} (subject : Subject) → Onward whole bytes at line rest at′ line′ → (answer : SheetAnswer)
     → SheetFound rest bytes at′ line′ subject answer → SheetFound whole bytes at line subject answer
 sheet-found subject on (Faulty f) m = on .faults _ _ m
-sheet-found subject on (Read p) m = record { sheet = m .sheet; reads = on .reads _ (m .reads); told = m .told; about = m .about }
+sheet-found subject on (Read p) m =
+    record { sheet = m .sheet; reads = on .reads _ (m .reads); told = m .told; about = m .about; logged = m .logged }
 
 -- where a value ends
 ends : {key bytes : List ℕ} {at line : ℕ} {c : Cursor} → CursorAt key bytes at line c → c .end ≡ c .start + length (stretch bytes (c .start) (c .end))
@@ -57,6 +59,7 @@ module _ (bytes : List ℕ) (at line : ℕ) (said : Parsed) (c : Cursor) (s : Sh
             (all-read bytes (c .end + 1) (withMore s (c .number)) last);
         told = ap (λ (p : Parsed). record { setting = p .setting; steps = p .steps; ask = p .ask; run = p .run; more = c .number }) e;
         about = refl;
+        logged = refl;
       }
 
   -- the job
@@ -101,6 +104,34 @@ module _ (bytes : List ℕ) (at line : ℕ) (said : Parsed) (c : Cursor) (s : Sh
         more = e i .more;
       }))
 
+  -- the reading, which changes nothing of the masks and of the log
+  reread :
+      (reading : ℕ) (lines : Lines) (at line : ℕ) (answer : SheetAnswer) → SheetFound lines bytes at line (withReading s reading .subject) answer
+      → SheetFound lines bytes at line (s .subject) answer
+  reread reading lines at line (Faulty f) m = m
+  reread reading lines at line (Read p) m = record { sheet = m .sheet; reads = m .reads; told = m .told; about = m .about; logged = m .logged }
+
+  module _ (there : Bool) (answer : SheetAnswer) where
+    pub now-read :
+        there ≡ true → Accepts nowForm bytes at line (c .number) c
+        → ((s : Sheet) → readAs said (c .number) ≡ parsedOf s → SheetFound (fromAsk s) bytes (c .end + 1) (c .line + 1) (s .subject) answer)
+        → SheetFound (nowThen there (λ reading. fromAsk (withReading s reading))) bytes at line (s .subject) answer
+    now-read has acc below =
+        subst (λ (b : Bool). SheetFound (nowThen b (λ reading. fromAsk (withReading s reading))) bytes at line (s .subject) answer) (sym has)
+        (sheet-found (s .subject)
+        (past-cursor nowForm bytes at line (λ reading at. fromAsk (withReading s reading)) (c .number) c acc)
+        answer
+        (reread (c .number) (fromAsk (withReading s (c .number))) (c .end + 1) (c .line + 1) answer (below (withReading s (c .number)) (ap (λ (p : Parsed). readAs p (c .number)) e))))
+
+  -- or no line for it
+  pub now-lacking :
+      (there : Bool) (answer : SheetAnswer) → there ≡ false
+      → ((s : Sheet) → readAs said 0 ≡ parsedOf s → SheetFound (fromAsk s) bytes at line (s .subject) answer)
+      → SheetFound (nowThen there (λ reading. fromAsk (withReading s reading))) bytes at line (s .subject) answer
+  now-lacking there answer lacks below =
+      subst (λ (b : Bool). SheetFound (nowThen b (λ reading. fromAsk (withReading s reading))) bytes at line (s .subject) answer) (sym lacks)
+      (reread 0 (fromAsk (withReading s 0)) at line answer (below (withReading s 0) (ap (λ (p : Parsed). readAs p 0) e)))
+
   -- the log, whose steps stand at the front of the lent one
   module _ (v : Version) (entry exit : List ℕ) (room : c .number ≤ length exit) where
     -- the same log line, by what the sheet says
@@ -114,23 +145,23 @@ module _ (bytes : List ℕ) (at line : ℕ) (said : Parsed) (c : Cursor) (s : Sh
           sheet = m .sheet;
           reads = on .reads _ (m .reads);
           told = m .told;
-          about = ap (λ (x : Subject). x .masks) (m .about);
+          about = m .about;
           logged =
               front-written entry exit (c .number) room back
-              ∙ ap (λ (x : Subject). fronted (x .log) entry) (sym (m .about));
+              ∙ ap (λ (log : List ℕ). fronted log entry) (sym (m .logged));
         }
 
     pub log-read :
         (answer : SheetAnswer) → Accepts (logForm v (said .setting .counts .actions)) bytes at line (take (c .number) exit) c
         → drop (c .number) exit ≡ drop (c .number) entry
         → ((s : Sheet) → record { setting = said .setting; steps = c .number; ask = said .ask; run = said .run; more = said .more } ≡ parsedOf s
-        → SheetFound (fromAsk s) bytes (c .end + 1) (c .line + 1) (s .subject) answer)
+        → SheetFound (fromNow v s) bytes (c .end + 1) (c .line + 1) (s .subject) answer)
         → LogFound (fromLog v s) bytes at line (s .subject .masks) entry exit answer
     log-read answer acc back below =
         let log = take (c .number) exit in
         let logged = subst (λ (p : Parsed). Accepts (logForm v (p .setting .counts .actions)) bytes at line log c) e acc in
         log-found
-        (past-cursor (logForm v (s .subject .setting .counts .actions)) bytes at line (λ log at. fromAsk (withLog s log)) log c logged)
+        (past-cursor (logForm v (s .subject .setting .counts .actions)) bytes at line (λ log at. fromNow v (withLog s log)) log c logged)
         back
         answer
         (below (withLog s log)

@@ -3,7 +3,8 @@ pub mod Rows
 pub mod Ends
 pub mod Say
 pub mod Order
-pub mod Domain
+pub mod LineIf
+pub mod Words
 pub mod Written
 pub mod MaskRow
 pub mod Forms

@@ -11,11 +11,12 @@ use Rattle.theory.specs.Subject.{settingOf}
 use Rattle.theory.specs.declared.Setting.{Setting}
 use Rattle.spelling.specs.Numeral.{lf}
 use Rattle.spelling.specs.Scan.{stretch}
-use Rattle.sheet.specs.Line.{Line}
+use Rattle.sheet.specs.Line.{Line, Form}
+use Rattle.sheet.specs.Forms.{domainForm, nowForm}
 use Rattle.sheet.specs.Versions.{versionOf, tableOf}
-use Rattle.sheet.specs.Lines.{Sheet, Lines, line, none, opened, actLines, belowActs, fromLog, fromActs, domainThen, fromStart, sheetLines, ReadAs, FaultIn, SheetRefused, SheetSays}
+use Rattle.sheet.specs.Lines.{Sheet, Lines, line, none, opened, lineIf, withLog, withReading, fromAsk, actLines, belowActs, fromLog, fromActs, fromStart, sheetLines, ReadAs, FaultIn, SheetRefused, SheetSays}
 use Rattle.sheet.specs.declared.Version.{Version}
-use Rattle.sheet.proofs.Domain.{past-domain}
+use Rattle.sheet.proofs.LineIf.{past-domain, past-now}
 
 -- the value of a line is the stretch behind its key
 stands : {key bytes : List ℕ} {at : ℕ} {value : List ℕ} → Line key bytes at value
@@ -48,7 +49,8 @@ last-standing :
     (v : Version) (setting : Setting) (masks bytes : List ℕ) (at : ℕ) (s : Sheet) → ReadAs (fromLog v (opened setting masks)) bytes at s → Standing bytes s
 unfolding ReadAs
 last-standing v setting masks bytes at s log =
-    let ask = log .3 in
+    let read = past-now (v .reading) (λ reading. fromAsk (withReading (withLog (opened setting masks) (log .0)) reading)) bytes _ s (log .3) in
+    let ask = read .reads in
     let run = ask .3 in
     let more = run .3 in
     subst (Standing bytes) (sym (more .3 .1)) (record { ask = stands (ask .1 .line); run = stands (run .1 .line) })
@@ -63,7 +65,7 @@ standing bytes s says =
     let valued =
     past-domain (v .valued) (λ domain. fromStart v (record { fluents = fluents .0; actions = actions .0; domain = domain })) bytes _ s (actions .3) in
     let start = valued .reads in
-    let setting = settingOf (fluents .0) (actions .0) (valued .domain) (start .0) in
+    let setting = settingOf (fluents .0) (actions .0) (valued .said) (start .0) 0 in
     let log = behind v (fluents .0) (actions .0) [] (belowActs v setting) bytes _ s (start .3) in
     last-standing v setting (tableOf v (actions .0) (log .masks)) bytes (log .at) s (log .reads)
 
@@ -97,19 +99,26 @@ acts-most v fluents (suc actions) table next n most =
     more-lines (actLines v fluents (suc actions) table next) (suc (actions + n)) (suc actions + n) (omega arith)
     (λ row range at. acts-most v fluents actions (table ++ row) next n most)
 
-domain-most : (valued : Bool) (next : ℕ → Lines) (n : ℕ) → ((domain : ℕ) → Most n (next domain)) → Most (suc n) (domainThen valued next)
-domain-most true next n most = λ domain _ _. most domain
-domain-most false next n most = more-lines (next 0) n (suc n) (omega arith) (most 0)
+if-most :
+    (there : Bool) (form : Form) (other : form .Value) (next : form .Value → Lines) (n : ℕ) → ((said : form .Value) → Most n (next said))
+    → Most (suc n) (lineIf there form other next)
+if-most true form other next n most = λ said _ _. most said
+if-most false form other next n most = more-lines (next other) n (suc n) (omega arith) (most other)
+
+-- the log and those below it
+last-most : (v : Version) (s : Sheet) → Most 5 (fromLog v s)
+last-most v s log _ _ =
+    if-most (v .reading) nowForm 0 (λ reading. fromAsk (withReading (withLog s log) reading)) 3 (λ reading ask _ _ run _ _ more _ _. tt)
 
 -- the lines of at most as many actions as there may be, and those above and below them
 sheet-most : Most 998 sheetLines
 sheet-most number _ _ fluents _ _ actions range _ =
     let v = versionOf number in
-    domain-most (v .valued) (λ domain. fromStart v (record { fluents = fluents; actions = actions; domain = domain })) 994
+    if-most (v .valued) domainForm 0 (λ domain. fromStart v (record { fluents = fluents; actions = actions; domain = domain })) 994
     (λ domain start _ _.
-    let s = settingOf fluents actions domain start in
-    more-lines (fromActs v s) (actions + 4) 993 (omega (arith, range .1))
-    (acts-most v fluents actions [] (belowActs v s) 4 (λ masks log _ _ ask _ _ run _ _ more _ _. tt)))
+    let s = settingOf fluents actions domain start 0 in
+    more-lines (fromActs v s) (actions + 5) 993 (omega (arith, range .1))
+    (acts-most v fluents actions [] (belowActs v s) 5 (λ masks. last-most v (opened s (tableOf v actions masks)))))
 
 -- a place has at most three digits
 pub place-small : (bytes : List ℕ) (number place : ℕ) → SheetRefused bytes number place → place < 1000

@@ -30,7 +30,10 @@ usable =
       record { rows = inl refl; short = omega arith },
       (
         record { rows = inl refl; short = omega arith },
-        (record { rows = inr refl; short = omega arith }, tt),
+        (
+          record { rows = inr refl; short = omega arith },
+          (record { rows = inr refl; short = omega arith }, tt),
+        ),
       ),
     )
 
@@ -43,14 +46,15 @@ module _ (v : Version) (u : Usable v) where
 
 -- Its log is as long as a call's may be.
 pub callable : (number : ℕ) → versionOf number .log ≡ logLimit
-callable = of-each (λ v. v .log ≡ logLimit) (refl, (refl, (refl, tt)))
+callable = of-each (λ v. v .log ≡ logLimit) (refl, (refl, (refl, (refl, tt))))
 
 -- a number without a row of its own has the first
-pub first-row : (number : ℕ) → (number ≡ 2 → ⊥) → (number ≡ 3 → ⊥) → sheet1 ≡ versionOf number
-first-row number second third = go (number - 1) refl
+pub first-row : (number : ℕ) → (number ≡ 2 → ⊥) → (number ≡ 3 → ⊥) → (number ≡ 4 → ⊥) → sheet1 ≡ versionOf number
+first-row number second third fourth = go (number - 1) refl
   where
     go : (i : ℕ) → number - 1 ≡ i → sheet1 ≡ getD versions i sheet1
     go zero e = refl
     go (suc zero) e = absurd (second (omega arith))
     go (suc (suc zero)) e = absurd (third (omega arith))
-    go (suc (suc (suc i))) e = refl
+    go (suc (suc (suc zero))) e = absurd (fourth (omega arith))
+    go (suc (suc (suc (suc i)))) e = refl

@@ -4,7 +4,7 @@ use mathlib.Core.List.{List, _++_}
 use Prim.Native.Nat.{ℕ, _+_}
 use lib.ListN.{length, drop}
 use Rattle.refusal.specs.Number.{numberOf}
-use Rattle.sheet.specs.Lines.{Sheet, SheetRefused, SheetSays}
+use Rattle.sheet.specs.Lines.{Sheet, rereading, SheetRefused, SheetSays}
 use Rattle.sheet.specs.declared.Parsed.{Parsed}
 use Rattle.sheet.specs.declared.SheetAnswer.{SheetAnswer}
 use Rattle.sheet.specs.declared.SheetAnswer.the-variants.{Faulty, Read}
@@ -24,6 +24,11 @@ parsedOf sheet =
       run = placed (sheet .runAt) (sheet .run);
       more = sheet .more;
     }
+
+-- the same where the sheet says this reading
+abbrev pub readAs : Parsed → ℕ → Parsed
+readAs p reading =
+    record { setting = rereading (p .setting) reading; steps = p .steps; ask = p .ask; run = p .run; more = p .more }
 
 -- the values at the front of lent memory, the rest of which keeps its content
 abbrev pub fronted : List ℕ → List ℕ → List ℕ

@@ -1,9 +1,10 @@
--- Document 01, "The sheet", and what document 02, Q-2 adds: what each line may say.
+-- Document 01, "The sheet", and what document 02, Q-2 and Q-7 add: what each line may say.
 use mathlib.Core.Bool.{true}
 use mathlib.Core.List.{List, [], _∷_}
-use Prim.Native.Nat.{ℕ, _*_, _≤_}
+use Prim.Native.Nat.{ℕ, zero, suc, _*_, _≤_}
+use lib.ListN.{length}
 use Rattle.laws.specs.Text.{bytes}
-use Rattle.meaning.specs.Limits.{fluentLimit, actionLimit, textLimit, domainLimit, moreLimit}
+use Rattle.meaning.specs.Limits.{fluentLimit, actionLimit, textLimit, domainLimit, readingLimit, moreLimit}
 use Rattle.meaning.specs.Rule.{Kind, testKind, jobKind}
 use Rattle.meaning.specs.Refusal.{NamesLacking, OneLacking, BadLog, BadRule, BadNames, TooDeep, BadJob, Unbound}
 use Rattle.theory.specs.declared.Counts.{Counts}
@@ -27,7 +28,7 @@ numberForm key width low high =
       judges = [];
     }
 
--- `sheet=1`, `sheet=2`, `sheet=3`
+-- `sheet=1` to `sheet=4`
 abbrev pub versionForm : Form
 versionForm = numberForm (bytes "sheet=") digitWidth 1 newest
 
@@ -79,6 +80,24 @@ logForm v actions =
       width = stepWidth * v .log;
       InRange = λ log. BadLog (v .log) actions log → ⊥;
       otherwise = 5;
+      judges = [];
+    }
+
+-- how a reading is written: `step` is number 0, `end` number 1
+abbrev pub readingText : ℕ → List ℕ
+readingText zero = bytes "step"
+readingText (suc n) = bytes "end"
+
+-- Q-7: `now=step` or `now=end`; "any other value is 3"
+abbrev pub nowForm : Form
+nowForm =
+    record {
+      key = bytes "now=";
+      Value = ℕ;
+      spell = readingText;
+      width = length (readingText 0);
+      InRange = λ reading. reading ≤ readingLimit;
+      otherwise = 3;
       judges = [];
     }
 

@@ -1,9 +1,9 @@
 -- The numbers of documents 01 and 02 that only a sheet has, each named once.
 use Prim.Native.Nat.{ℕ}
 
--- `sheet=1`, by Q-2 `sheet=2` and by Q-6 `sheet=3`: the newest version that there is
+-- `sheet=1`, by Q-2 `sheet=2`, by Q-6 `sheet=3` and by Q-7 `sheet=4`: the newest version that there is
 abbrev pub newest : ℕ
-newest = 3
+newest = 4
 
 -- a count has two digits, the version and *more* have one
 abbrev pub countWidth : ℕ

@@ -1,4 +1,4 @@
--- Document 01, "The sheet", and what document 02, Q-2 adds: its lines in their order, and what reading them from the top finds.
+-- Document 01, "The sheet", and what document 02, Q-2 and Q-7 add: its lines in their order, and what reading them from the top finds.
 use mathlib.Core.Path.{_≡_}
 use mathlib.Core.Logic.{_⊎_}
 use mathlib.Core.Bool.{Bool, true, false}
@@ -12,7 +12,7 @@ use Rattle.theory.specs.declared.Setting.{Setting}
 use Rattle.sheet.specs.Line.{Form, Says, lineRows, endRows}
 use Rattle.sheet.specs.Versions.{versionOf, tableOf}
 use Rattle.sheet.specs.Longest.{sheetLimit}
-use Rattle.sheet.specs.Forms.{versionForm, fluentsForm, actionsForm, domainForm, startForm, actForm, logForm, askForm, runForm, moreForm}
+use Rattle.sheet.specs.Forms.{versionForm, fluentsForm, actionsForm, domainForm, startForm, actForm, logForm, nowForm, askForm, runForm, moreForm}
 use Rattle.sheet.specs.declared.Version.{Version}
 
 -- What a sheet says. Its masks are one flat table; of a rule it is the text, and the place where that stands on the sheet.
@@ -29,6 +29,11 @@ pub data Lines : Type 1 where
   line : (form : Form) → (form .Value → ℕ → Lines) → Lines
   none : Sheet → Lines
 
+-- a line that the version may lack; without it this is said
+abbrev pub lineIf : Bool → (form : Form) → form .Value → (form .Value → Lines) → Lines
+lineIf true form other next = line form (λ said at. next said)
+lineIf false form other next = next other
+
 -- what is said once the lines of the actions are read, and what the lines below them add
 abbrev pub opened : Setting → List ℕ → Sheet
 opened setting masks = record { subject = subjectOf setting masks []; ask = []; askAt = 0; run = []; runAt = 0; more = 0 }
@@ -37,6 +42,21 @@ abbrev pub withLog : Sheet → List ℕ → Sheet
 withLog s log =
     record {
       subject = subjectOf (s .subject .setting) (s .subject .masks) log;
+      ask = s .ask;
+      askAt = s .askAt;
+      run = s .run;
+      runAt = s .runAt;
+      more = s .more;
+    }
+
+-- the same setting with this reading
+abbrev pub rereading : Setting → ℕ → Setting
+rereading s reading = settingOf (s .counts .fluents) (s .counts .actions) (s .counts .domain) (s .start) reading
+
+abbrev pub withReading : Sheet → ℕ → Sheet
+withReading s reading =
+    record {
+      subject = subjectOf (rereading (s .subject .setting) reading) (s .subject .masks) (s .subject .log);
       ask = s .ask;
       askAt = s .askAt;
       run = s .run;
@@ -63,8 +83,15 @@ fromRun s = line (runForm (countsOf (s .subject))) (λ run at. fromMore (withRun
 abbrev pub fromAsk : Sheet → Lines
 fromAsk s = line (askForm (countsOf (s .subject))) (λ ask at. fromRun (withAsk s ask at))
 
+-- Q-7: "a line `now=step` or `now=end` between log and ask", where the version has it; "Sheets 1 to 3 mean `step`."
+abbrev pub nowThen : Bool → (ℕ → Lines) → Lines
+nowThen reading next = lineIf reading nowForm 0 next
+
+abbrev pub fromNow : Version → Sheet → Lines
+fromNow v s = nowThen (v .reading) (λ reading. fromAsk (withReading s reading))
+
 abbrev pub fromLog : Version → Sheet → Lines
-fromLog v s = line (logForm v (countsOf (s .subject) .actions)) (λ log at. fromAsk (withLog s log))
+fromLog v s = line (logForm v (countsOf (s .subject) .actions)) (λ log at. fromNow v (withLog s log))
 
 -- "then one line per action in order of number"
 abbrev pub actLines : Version → ℕ → ℕ → List ℕ → (List ℕ → Lines) → Lines
@@ -80,12 +107,11 @@ fromActs v s = actLines v (s .counts .fluents) (s .counts .actions) [] (belowAct
 
 -- "`sheet=1`, `fluents=NN` .., `actions=NN` .., `start=` 8 hex digits, then one line per action"
 abbrev pub fromStart : Version → Counts → Lines
-fromStart v c = line (startForm (c .fluents)) (λ start at. fromActs v (settingOf (c .fluents) (c .actions) (c .domain) start))
+fromStart v c = line (startForm (c .fluents)) (λ start at. fromActs v (settingOf (c .fluents) (c .actions) (c .domain) start 0))
 
 -- Q-2: "a line `domain=NN` .. after `actions`", where the version has it; otherwise a variable has no values
 abbrev pub domainThen : Bool → (ℕ → Lines) → Lines
-domainThen true next = line domainForm (λ domain at. next domain)
-domainThen false next = next 0
+domainThen valued next = lineIf valued domainForm 0 next
 
 abbrev pub fromDomain : Version → ℕ → ℕ → Lines
 fromDomain v fluents actions =

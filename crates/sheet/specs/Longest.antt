@@ -6,8 +6,8 @@ use Prim.Native.Nat.{ℕ, _+_, _*_, max}
 use Rattle.meaning.specs.Limits.{actionLimit}
 use Rattle.theory.specs.declared.Counts.{Counts}
 use Rattle.sheet.specs.Line.{lineWidth}
-use Rattle.sheet.specs.Versions.{sheet1, sheet2, sheet3, versions}
-use Rattle.sheet.specs.Forms.{versionForm, fluentsForm, actionsForm, domainForm, startForm, actForm, logForm, askForm, runForm, moreForm}
+use Rattle.sheet.specs.Versions.{sheet1, sheet2, sheet3, sheet4, versions}
+use Rattle.sheet.specs.Forms.{versionForm, fluentsForm, actionsForm, domainForm, startForm, actForm, logForm, nowForm, askForm, runForm, moreForm}
 use Rattle.sheet.specs.declared.Version.{Version}
 
 -- the width of a line does not depend on what the lines above say
@@ -24,8 +24,12 @@ runWidth = lineWidth (runForm anyCounts) + moreWidth
 abbrev pub askWidth : ℕ
 askWidth = lineWidth (askForm anyCounts) + runWidth
 
+-- a line that the version may lack
+abbrev pub nowWidth : Version → ℕ
+nowWidth v = cond (v .reading) (lineWidth nowForm) 0 + askWidth
+
 abbrev pub logWidth : Version → ℕ
-logWidth v = lineWidth (logForm v 0) + askWidth
+logWidth v = lineWidth (logForm v 0) + nowWidth v
 
 abbrev pub actsWidth : Version → ℕ
 actsWidth v = actionLimit * lineWidth (actForm v 0) + logWidth v
@@ -33,7 +37,7 @@ actsWidth v = actionLimit * lineWidth (actForm v 0) + logWidth v
 abbrev pub startWidth : Version → ℕ
 startWidth v = lineWidth (startForm 0) + actsWidth v
 
--- a line that the version may lack
+-- another
 abbrev pub domainWidth : Version → ℕ
 domainWidth v = cond (v .valued) (lineWidth domainForm) 0 + startWidth v
 
@@ -54,7 +58,8 @@ longestOf (v ∷ vs) = max (longest v) (longestOf vs)
 abbrev pub sheetLimit : ℕ
 sheetLimit = longestOf versions
 
--- "With 64 actions the longest sheet has 3,263 bytes", one of version 2 the bytes of a line more: "Sheet limit 3,273"; with ten masks a line "Sheet limit 6,729."
+-- "With 64 actions the longest sheet has 3,263 bytes", one of version 2 the bytes of a line more: "Sheet limit 3,273"; with ten masks a line "Sheet limit 6,729", and with the
+-- line of the reading "Sheet limit 6,738."
 pub as-documented : longest sheet1 ≡ 3263
 as-documented = refl
 
@@ -64,5 +69,8 @@ as-requested = refl
 pub with-clauses : longest sheet3 ≡ 6729
 with-clauses = refl
 
-pub for-every-version : sheetLimit ≡ 6729
+pub with-reading : longest sheet4 ≡ 6738
+with-reading = refl
+
+pub for-every-version : sheetLimit ≡ 6738
 for-every-version = refl

@@ -1,4 +1,4 @@
--- What reading a sheet from some line on finds, line by line: the head down to the start state, the lines of the actions, and the last four.
+-- What reading a sheet from some line on finds, line by line: the head down to the start state, the lines of the actions, and those below them.
 use mathlib.Core.Path.{_≡_}
 use mathlib.Core.List.{List}
 use Prim.Native.Nat.{ℕ, _+_, _*_, _≤_}
@@ -52,7 +52,7 @@ pub record ActsAsked (bytes : List ℕ) (h : Head) (table : List ℕ) : Type 0 w
 abbrev pub masksIn : Head → ℕ
 masksIn h = h .version .masks * h .setting .counts .actions
 
--- the lines of the actions are read: their masks stand one after the other at the front of the table, nothing behind has changed, and the last four lines come next
+-- the lines of the actions are read: their masks stand one after the other at the front of the table, nothing behind has changed, and the log comes next
 pub record ActsAre (bytes : List ℕ) (h : Head) (entry exit : List ℕ) (c : Cursor) : Type 0 where
   pub below : Below bytes c
   pub back : drop (masksIn h) exit ≡ drop (masksIn h) entry
@@ -81,12 +81,13 @@ TableFound bytes h entry exit (Faulty f) =
     FaultIn (fromActs (h .version) (h .setting)) bytes (h .last .end + 1) (h .last .line + 1) (numberOf (f .refusal)) (f .line)
 TableFound bytes h entry exit (Next c) = TableIs bytes h entry exit c
 
--- the lines from here on are read, nothing follows them, and this is what the sheet says, which is about this subject
+-- the lines from here on are read, nothing follows them, and this is what the sheet says, whose masks and whose log are this subject's
 pub record SheetIs (lines : Lines) (bytes : List ℕ) (at : ℕ) (subject : Subject) (p : Parsed) : Type 0 where
   pub sheet : Sheet
   pub reads : ReadAs lines bytes at sheet
   pub told : p ≡ parsedOf sheet
-  pub about : sheet .subject ≡ subject
+  pub about : sheet .subject .masks ≡ subject .masks
+  pub logged : sheet .subject .log ≡ subject .log
 
 abbrev pub SheetFound : Lines → List ℕ → ℕ → ℕ → Subject → SheetAnswer → Type 0
 SheetFound lines bytes at line subject (SheetFaulty f) = FaultIn lines bytes at line (numberOf (f .refusal)) (f .line)

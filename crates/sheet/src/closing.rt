@@ -1,4 +1,4 @@
-// The last four lines: the log, what is asked, the job, *more*. Each function reads one of them, adds what it says to what the lines above say, and goes on
+// The lines below those of the actions: the log, the reading where there is a line for it, what is asked, the job, *more*. Each function reads one of them, adds what it says to what the lines above say, and goes on
 // to the next.
 ghost use mathlib.Core.Path.{_≡_};
 ghost use mathlib.Core.List.{List};
@@ -6,9 +6,9 @@ ghost use Prim.Native.Nat.{ℕ, _+_, _≤_};
 ghost use lib.ListN.{length};
 ghost use Rattle.meaning.specs.Limits.{logLimit};
 ghost use Rattle.sheet.specs.Versions.{Usable};
-ghost use Rattle.sheet.specs.Lines.{Sheet, opened, fromMore, fromRun, fromAsk, fromLog};
+ghost use Rattle.sheet.specs.Lines.{Sheet, opened, fromMore, fromRun, fromAsk, fromNow, fromLog};
 ghost use Rattle.sheet.specs.Found.{Below};
-ghost use Rattle.sheet.specs.Answer.{parsedOf};
+ghost use Rattle.sheet.specs.Answer.{parsedOf, readAs};
 ghost use Rattle.sheet.specs.Sections.{Ranged, SheetFound, LogFound};
 use crate::Cursor;
 use crate::Fault;
@@ -27,7 +27,7 @@ use theory::Setting;
 // Document 01: "one digit 0 to 6".
 const MOST_MORE: u32 = 6;
 
-// What is said above the last four lines.
+// What is said above these lines.
 pub(crate) fn nothing_yet(setting: Setting) -> Parsed
     ensures { λ r. ⌜ ((masks : List ℕ) → r ≡ parsedOf (opened setting masks)) ⌝ }
 {
@@ -103,6 +103,40 @@ fn read_ask(sheet: &[u8], above: Cursor, mut said: Parsed) -> SheetAnswer
     }
 }
 
+// The same with this reading.
+fn with_reading(mut said: Parsed, reading: usize) -> Parsed
+    ensures { λ r. ⌜ r ≡ readAs said reading ⌝ }
+{
+    let setting = said.setting;
+    let counts = setting.counts;
+    let read = Setting {
+        counts,
+        start: setting.start,
+        reading,
+    };
+    said.setting = read;
+    said
+}
+
+// How a test inside a walk is read, where the version has a line for it, and what is below it.
+fn read_now(sheet: &[u8], above: Cursor, version: Version, said: Parsed) -> SheetAnswer
+    requires { ⌜ Below (now sheet) above × Ranged (said .setting .counts) ⌝ }
+    ensures { λ r. ⌜ ((s : Sheet) → said ≡ parsedOf s → SheetFound (fromNow version s) (now (sheet .entry)) (above .end + 1) (above .line + 1) (s .subject) r) ⌝ }
+{
+    if !version.reading {
+        let first = with_reading(said, 0);
+        return read_ask(sheet, above, first);
+    }
+    match line::now_below(sheet, above) {
+        LineAnswer::Faulty(f) => SheetAnswer::Faulty(f),
+        LineAnswer::Next(c) => {
+            let reading = c.number as usize;
+            let read = with_reading(said, reading);
+            read_ask(sheet, c, read)
+        }
+    }
+}
+
 // The log, whose steps go to the front of the lent one, and what is below it.
 pub(crate) fn read_log(
     sheet: &[u8],
@@ -122,7 +156,7 @@ pub(crate) fn read_log(
         LineAnswer::Faulty(f) => SheetAnswer::Faulty(f),
         LineAnswer::Next(c) => {
             said.steps = c.number as usize;
-            read_ask(sheet, c, said)
+            read_now(sheet, c, version, said)
         }
     }
 }

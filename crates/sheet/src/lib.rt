@@ -8,7 +8,7 @@ ghost use Rattle.sheet.specs.Answer.{SheetAnswered};
 ghost use Rattle.sheet.specs.Sections.{LinesFound};
 
 mod act; // act.rt: the lines of the actions
-mod closing; // closing.rt: the last four lines
+mod closing; // closing.rt: the lines below those of the actions
 mod line; // line.rt: a line with its key, and the lines that say a number
 mod opening; // opening.rt: the lines down to the start state
 mod rules; // rules.rt: the lines that are rules
@@ -21,11 +21,13 @@ use theory::ACTION_LIMIT;
 use theory::STRIDE;
 use theory::Setting;
 
-// A version of the sheet: whether a line says how many values a variable has, how many masks an action's line has, and how many steps its log may have.
+// A version of the sheet: whether a line says how many values a variable has, how many masks an action's line has, how many steps its log may have, and whether a line
+// says how a test inside a walk is read.
 struct Version {
     pub valued: bool,
     pub masks: usize,
     pub log: usize,
+    pub reading: bool,
 }
 
 // A refused line: why, and its number from 1.
@@ -81,7 +83,7 @@ pub enum SheetAnswer {
 }
 
 // Document 02: the longest sheet of any version.
-pub const SHEET_LIMIT: usize = 6729;
+pub const SHEET_LIMIT: usize = 6738;
 
 // Room for the masks of as many actions as there may be, and for the steps of the longest log.
 pub const MASKS_ROOM: usize = STRIDE * ACTION_LIMIT;

@@ -1,8 +1,12 @@
-// One line of a sheet: its key and its LF, and the lines that say a number.
+// One line of a sheet: its key and its LF, and the lines that say a number or a reading.
+ghost use mathlib.Core.Path.{_≡_};
+ghost use mathlib.Core.Logic.{_↔_};
+ghost use mathlib.Core.Bool.{true};
 ghost use Prim.Native.Nat.{_≤_, _<_, _^_};
 ghost use lib.ListN.{length};
 ghost use Rattle.meaning.specs.Limits.{fluentLimit};
-ghost use Rattle.sheet.specs.Forms.{numberForm, startForm};
+ghost use Rattle.spelling.specs.Scan.{stretch};
+ghost use Rattle.sheet.specs.Forms.{numberForm, nowForm, startForm};
 ghost use Rattle.sheet.specs.Found.{Below, LineFound, LineRead, ReadBelow};
 use crate::Cursor;
 use crate::Fault;
@@ -99,6 +103,53 @@ pub(crate) fn number_below(
     let at = above.end + 1;
     let line = above.line + 1;
     number_line(sheet, at, line, key, width, low, high)
+}
+
+// The stretch is this word.
+fn is_word(sheet: &[u8], start: usize, end: usize, word: &[u8]) -> bool
+    requires { ⌜ (start ≤ end) × (end ≤ length (now sheet)) ⌝ }
+    ensures { λ r. ⌜ (r ≡ true) ↔ (stretch (now (sheet .entry)) start end ≡ now (word .entry)) ⌝ }
+{
+    if end - start != word.len() {
+        return false;
+    }
+    scan::opens_with(sheet, start, word)
+}
+
+// How a test inside a walk is read, in the line below another: number 0 for `step`, 1 for `end`.
+pub(crate) fn now_below(sheet: &[u8], above: Cursor) -> LineAnswer
+    requires { ⌜ Below (now sheet) above ⌝ }
+    ensures { λ r. ⌜ ReadBelow nowForm (now (sheet .entry)) above (λ c. c .number) r ⌝ }
+{
+    let at = above.end + 1;
+    let line = above.line + 1;
+    match line_at(sheet, at, line, b"now=") {
+        LineAnswer::Faulty(f) => LineAnswer::Faulty(f),
+        LineAnswer::Next(c) => {
+            let start = c.start;
+            let end = c.end;
+            if is_word(sheet, start, end, b"step") {
+                return LineAnswer::Next(Cursor {
+                    line,
+                    start,
+                    end,
+                    number: 0,
+                });
+            }
+            if is_word(sheet, start, end, b"end") {
+                return LineAnswer::Next(Cursor {
+                    line,
+                    start,
+                    end,
+                    number: 1,
+                });
+            }
+            LineAnswer::Faulty(Fault {
+                refusal: Refusal::BadNumber,
+                line,
+            })
+        }
+    }
 }
 
 // The start state.

@@ -141,7 +141,11 @@ fn read_start(sheet: &[u8], above: Cursor, version: Version, counts: Counts) -> 
         LineAnswer::Faulty(f) => HeadAnswer::Faulty(f),
         LineAnswer::Next(last) => {
             let start = last.number;
-            let setting = Setting { counts, start };
+            let setting = Setting {
+                counts,
+                start,
+                reading: 0,
+            };
             HeadAnswer::Read(Head {
                 version,
                 setting,

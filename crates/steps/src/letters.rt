@@ -7,8 +7,8 @@ ghost use Rattle.grammar.specs.Letters.{variables, place, Lettered};
 ghost use Rattle.runs.specs.Values.{valueIn, LetterHere};
 use crate::step::wide;
 
-// The values of `v`, `w`, `x`, `y` in this order, and behind them how many values there are.
-pub const VARS: usize = 5;
+// The values of `v`, `w`, `x`, `y` in this order, behind them how many values there are, how a walk's own tests are read, and how those inside a `<` are.
+pub const VARS: usize = 7;
 
 // Which variable's letter stands at a place where one does.
 pub fn place_of(text: &[u8], at: usize) -> usize

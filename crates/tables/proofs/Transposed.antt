@@ -16,7 +16,7 @@ use Rattle.laws.specs.Bit.{on}
 use Rattle.laws.proofs.Bitwise.{on-xor}
 use Rattle.laws.proofs.Truth.{off-on, true-or-false, and-iff, same-truth}
 use Rattle.meaning.specs.Limits.{fluentLimit, actionLimit}
-use Rattle.meaning.specs.Theory.{Possible, World, Values, withValue, revalue, bind, stateAt, stepAt}
+use Rattle.meaning.specs.Theory.{Possible, Reading, World, Values, withValue, revalue, bind, owning, stateAt, stepAt}
 use Rattle.meaning.specs.Rule.{Variable}
 use Rattle.meaning.proofs.Theory.{getElem-getD, getElem-within}
 use Rattle.theory.specs.declared.Setting.{Setting}
@@ -238,9 +238,9 @@ describes w {rows} {n} ends t s =
     back : (i p : ℕ) → (p ≤ length (w .log)) × (on (stateAt w p) i ≡ true) → fluentHolds rows i p ≡ true
     back i p r = s .bits i p ∙ and-iff (leb p (length (w .log))) (on (stateAt w (min p n)) i) .1 (le-leb p (length (w .log)) (r .0), stood i p (r .0) ∙ r .1)
 
--- The world as far as a row depends on it: neither the counts matter nor the values of the variables.
+-- The world as far as a row depends on it: neither the counts matter, nor the values of the variables, nor how a test is read.
 abbrev pub uncounted : ℕ → List ℕ → List ℕ → World
-uncounted start masks log = worldOf (subjectOf (settingOf 0 0 0 start) masks log)
+uncounted start masks log = worldOf (subjectOf (settingOf 0 0 0 start 0) masks log)
 
 pub recount : (s : Setting) (masks log : List ℕ) {rows : List ℕ} → Describes (uncounted (s .start) masks log) rows → Describes (worldOf (subjectOf s masks log)) rows
 recount s masks log d = record { room = d .room; taken = d .taken; shown = d .shown; possible = d .possible }
@@ -250,3 +250,6 @@ described-anew w values d = record { room = d .room; taken = d .taken; shown = d
 
 pub described-bound : (w : World) (v : Variable) (k : ℕ) {rows : List ℕ} → Describes w rows → Describes (bind w v k) rows
 described-bound w v k d = described-anew w (withValue (w .values) v k) d
+
+pub described-owning : (w : World) (r : Reading) {rows : List ℕ} → Describes w rows → Describes (owning w r) rows
+described-owning w r d = record { room = d .room; taken = d .taken; shown = d .shown; possible = d .possible }

@@ -10,7 +10,7 @@ use Rattle.meaning.specs.Limits.{actionLimit}
 use Rattle.meaning.specs.Theory.{stride}
 use Rattle.meaning.specs.Refusal.{Accepted, BadTable}
 use Rattle.meaning.proofs.Refusal.{not-first}
-use Rattle.theory.specs.Rows.{CountsOut, theoryRows}
+use Rattle.theory.specs.Rows.{SettingOut, theoryRows}
 use Rattle.theory.specs.declared.Setting.{Setting}
 
 pub record Sound (s : Setting) (masks : List ℕ) : Type 0 where
@@ -20,8 +20,8 @@ pub record Sound (s : Setting) (masks : List ℕ) : Type 0 where
 pub sound : (s : Setting) (masks : List ℕ) → Accepted (theoryRows s masks) → Sound s masks
 sound s masks a =
     let actions : ℕ = s .counts .actions in
-    let counted : CountsOut (s .counts) ⊎ BadTable actions masks → ⊥ = not-first a in
-    let fits : ¬ (actionLimit < actions) = λ h. counted (inl (inl (inr (inr h)))) in
+    let counted : SettingOut s ⊎ BadTable actions masks → ⊥ = not-first a in
+    let fits : ¬ (actionLimit < actions) = λ h. counted (inl (inl (inl (inr (inr h))))) in
     record {
       fewActions = omega arith;
       table = elim (ℕ-discrete (length masks) (stride * actions)) [ yes e ↦ e | no ne ↦ absurd (counted (inr ne)) ];

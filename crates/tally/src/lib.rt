@@ -48,14 +48,18 @@ pub fn remade(
     log: &[u8],
     t: Tally,
 ) -> Left
-    ensures { λ r. ⌜ Remade (subjectOf (settingOf fluents actions 0 start) (now (masks .entry)) (now (log .entry))) t (r .refusal) (r .tally) ⌝ }
+    ensures { λ r. ⌜ Remade (subjectOf (settingOf fluents actions 0 start 0) (now (masks .entry)) (now (log .entry))) t (r .refusal) (r .tally) ⌝ }
 {
     let counts = Counts {
         fluents,
         actions,
         domain: 0,
     };
-    let s = Setting { counts, start };
+    let s = Setting {
+        counts,
+        start,
+        reading: 0,
+    };
     match faults::check_world(s, masks, log) {
         Check::Refused(why) => {
             let refusal = refusal::number(why);
@@ -77,14 +81,18 @@ pub fn appended(
     t: Tally,
     action: usize,
 ) -> Left
-    ensures { λ r. ⌜ Appended (settingOf fluents actions 0 start) (now (masks .entry)) t action (r .refusal) (r .tally) ⌝ }
+    ensures { λ r. ⌜ Appended (settingOf fluents actions 0 start 0) (now (masks .entry)) t action (r .refusal) (r .tally) ⌝ }
 {
     let counts = Counts {
         fluents,
         actions,
         domain: 0,
     };
-    let s = Setting { counts, start };
+    let s = Setting {
+        counts,
+        start,
+        reading: 0,
+    };
     match faults::check_theory(s, masks) {
         Check::Refused(why) => {
             let refusal = refusal::number(why);
@@ -152,7 +160,7 @@ pub fn reset(
     log: &[u8],
     t: &mut Tally,
 ) -> u8
-    ensures { λ r. ⌜ Remade (subjectOf (settingOf fluents actions 0 start) (now (masks .entry)) (now (log .entry))) (now (t .entry)) r (now (t .exit)) ⌝ }
+    ensures { λ r. ⌜ Remade (subjectOf (settingOf fluents actions 0 start 0) (now (masks .entry)) (now (log .entry))) (now (t .entry)) r (now (t .exit)) ⌝ }
 {
     let r = remade(fluents, actions, start, masks, log, *t);
     *t = r.tally;
@@ -168,7 +176,7 @@ pub fn append(
     t: &mut Tally,
     action: usize,
 ) -> u8
-    ensures { λ r. ⌜ Appended (settingOf fluents actions 0 start) (now (masks .entry)) (now (t .entry)) action r (now (t .exit)) ⌝ }
+    ensures { λ r. ⌜ Appended (settingOf fluents actions 0 start 0) (now (masks .entry)) (now (t .entry)) action r (now (t .exit)) ⌝ }
 {
     let r = appended(fluents, actions, start, masks, *t, action);
     *t = r.tally;

@@ -1,16 +1,16 @@
--- What the acceptance of a world's rows tells: counts, table and log are as they should be, and the log can be gone through. Knows refusals 3 and 5.
+-- What the acceptance of a world's rows tells: counts, reading, table and log are as they should be, and the log can be gone through. Knows refusals 3 and 5.
 use mathlib.Core.Path.{_≡_}
 use mathlib.Core.Logic.{_⊎_, inl, inr}
 use Prim.Native.Nat.{ℕ, _*_, _≤_, _<_}
 use native.Mathlib.Decide.{ℕ-discrete}
 use native.Mathlib.Omega.{arith}
 use lib.ListN.{length, getD}
-use Rattle.meaning.specs.Limits.{fluentLimit, actionLimit, domainLimit, logLimit}
+use Rattle.meaning.specs.Limits.{fluentLimit, actionLimit, domainLimit, readingLimit, logLimit}
 use Rattle.meaning.specs.Refusal.{Accepted, BadTable, BadMasks, BadLog}
 use Rattle.meaning.proofs.Refusal.{not-first, not-rest}
 use Rattle.meaning.specs.Theory.{stride}
 use Rattle.theory.specs.Subject.{Subject, countsOf, Readable}
-use Rattle.theory.specs.Rows.{CountsOut, worldRows}
+use Rattle.theory.specs.Rows.{SettingOut, worldRows}
 
 -- a subject that no row refuses
 pub record Checked (s : Subject) : Type 0 where
@@ -18,6 +18,7 @@ pub record Checked (s : Subject) : Type 0 where
   pub someActions : 1 ≤ countsOf s .actions
   pub fewActions : countsOf s .actions ≤ actionLimit
   pub fewValues : countsOf s .domain ≤ domainLimit
+  pub read : s .setting .reading ≤ readingLimit
   pub table : length (s .masks) ≡ stride * countsOf s .actions
   pub named : BadMasks (countsOf s .fluents) (s .setting .start) (s .masks) → ⊥
   pub short : length (s .log) ≤ logLimit
@@ -27,12 +28,13 @@ pub checked : (s : Subject) → Accepted (worldRows s) → Checked s
 checked s a =
     let fluents : ℕ = countsOf s .fluents in
     let actions : ℕ = countsOf s .actions in
-    let counted : CountsOut (countsOf s) ⊎ BadTable actions (s .masks) → ⊥ = not-first a in
+    let counted : SettingOut (s .setting) ⊎ BadTable actions (s .masks) → ⊥ = not-first a in
     let logged : BadLog logLimit actions (s .log) → ⊥ = not-first (not-rest (not-rest a)) in
-    let few : ¬ (fluentLimit < fluents) = λ h. counted (inl (inl (inl h))) in
-    let some : ¬ (actions < 1) = λ h. counted (inl (inl (inr (inl h)))) in
-    let fits : ¬ (actionLimit < actions) = λ h. counted (inl (inl (inr (inr h)))) in
-    let valued : ¬ (domainLimit < countsOf s .domain) = λ h. counted (inl (inr h)) in
+    let few : ¬ (fluentLimit < fluents) = λ h. counted (inl (inl (inl (inl h)))) in
+    let some : ¬ (actions < 1) = λ h. counted (inl (inl (inl (inr (inl h))))) in
+    let fits : ¬ (actionLimit < actions) = λ h. counted (inl (inl (inl (inr (inr h))))) in
+    let valued : ¬ (domainLimit < countsOf s .domain) = λ h. counted (inl (inl (inr h))) in
+    let read : ¬ (readingLimit < s .setting .reading) = λ h. counted (inl (inr h)) in
     let long : ¬ (logLimit < length (s .log)) = λ h. logged (inl h) in
     let strange : (k : ℕ) → k < length (s .log) → ¬ (actions ≤ getD (s .log) k 0) =
     λ k h l. logged (inr (record { place = k; there = h; lacking = l })) in
@@ -41,6 +43,7 @@ checked s a =
       someActions = omega arith;
       fewActions = omega arith;
       fewValues = omega arith;
+      read = omega arith;
       table = elim (ℕ-discrete (length (s .masks)) (stride * actions)) [ yes e ↦ e | no ne ↦ absurd (counted (inr ne)) ];
       named = not-first (not-rest a);
       short = omega arith;

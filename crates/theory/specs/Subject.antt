@@ -1,19 +1,20 @@
 -- What a library call is asked of: the numbers that it is given by value, its mask table and its log; and the meaning's world of it. The mask table is one flat
 -- list, ten masks an action in the order need, ban, then twice when, unless, put, drop. Knows the call's arguments and the meaning's World, and no code.
 use mathlib.Core.List.{List}
-use Prim.Native.Nat.{ℕ, _+_, _*_, _≤_, _<_}
+use Prim.Native.Nat.{ℕ, zero, suc, _+_, _*_, _≤_, _<_}
 use lib.ListN.{length, getD}
 use Rattle.meaning.specs.Limits.{actionLimit, logLimit}
-use Rattle.meaning.specs.Theory.{Clause, Masks, World, clauseOf, masksOf, noValues, stride}
+use Rattle.meaning.specs.Theory.{Clause, Masks, Reading, nowStep, nowEnd, World, clauseOf, masksOf, noValues, stride}
 use Rattle.theory.specs.declared.Counts.{Counts}
 use Rattle.theory.specs.declared.Setting.{Setting}
 
-abbrev pub settingOf : ℕ → ℕ → ℕ → ℕ → Setting
-settingOf fluents actions domain start = record { counts = record { fluents = fluents; actions = actions; domain = domain }; start = start }
+abbrev pub settingOf : ℕ → ℕ → ℕ → ℕ → ℕ → Setting
+settingOf fluents actions domain start reading =
+    record { counts = record { fluents = fluents; actions = actions; domain = domain }; start = start; reading = reading }
 
--- "calls without a rule .. have none": the same with no values for a variable
+-- "calls without a rule .. have none": the same with no values for a variable, and no reading but the first
 abbrev pub unvalued : Setting → Setting
-unvalued s = settingOf (s .counts .fluents) (s .counts .actions) 0 (s .start)
+unvalued s = settingOf (s .counts .fluents) (s .counts .actions) 0 (s .start) 0
 
 -- A later request that varies what a call is asked of adds a field to Setting, or one here.
 pub record Subject : Type 0 where
@@ -36,6 +37,12 @@ abbrev pub tableMasks : List ℕ → ℕ → Masks
 tableMasks masks a =
     masksOf (getD masks (stride * a) 0) (getD masks (stride * a + 1) 0) (clauseAt masks (stride * a + 2)) (clauseAt masks (stride * a + 6))
 
+-- how a test inside a walk is read: "0 is `step`, 1 is `end`"
+abbrev pub readingOf : ℕ → Reading
+readingOf zero = nowStep
+readingOf (suc n) = nowEnd
+
+-- "Under `end`, a `?T` within a `<` walk, or in a walk question, has the outer now."
 abbrev pub worldOf : Subject → World
 worldOf s =
     record {
@@ -45,6 +52,8 @@ worldOf s =
       start = s .setting .start;
       domain = countsOf s .domain;
       values = noValues;
+      own = readingOf (s .setting .reading);
+      inner = readingOf (s .setting .reading);
       log = s .log;
     }
 

@@ -16,6 +16,7 @@ use crate::Check;
 use crate::Counts;
 use crate::DOMAIN_LIMIT;
 use crate::FLUENT_LIMIT;
+use crate::READING_LIMIT;
 use crate::STRIDE;
 use crate::Setting;
 use positions::PositionSet;
@@ -92,14 +93,18 @@ pub fn bad_log(actions: usize, log: &[u8]) -> bool
     false
 }
 
-// The counts and the table's length, then what the masks name.
+// The counts, the reading and the table's length, then what the masks name.
 pub fn check_theory(s: Setting, masks: &[u32]) -> Check
     ensures { λ r. ⌜ Settled (theoryRows s (now (masks .entry))) r ⌝ }
 {
     let counts = s.counts;
     let fluents = counts.fluents;
     let actions = counts.actions;
+    let reading = s.reading;
     if bad_counts(counts) {
+        return Check::Refused(Refusal::BadNumber);
+    }
+    if READING_LIMIT < reading {
         return Check::Refused(Refusal::BadNumber);
     }
     if masks.len() != STRIDE * actions {

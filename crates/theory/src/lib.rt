@@ -23,6 +23,9 @@ pub const STRIDE: usize = 10;
 // "`domain=NN` (01 to 16)": the values that a variable can have.
 pub const DOMAIN_LIMIT: usize = 16;
 
+// "`now=step` or `now=end`", 0 or 1: the number of the last reading.
+pub const READING_LIMIT: usize = 1;
+
 // How many fluents and actions a theory has, and how many values a variable: what a rule is read against. A struct, so that they are told apart by their
 // names. A domain of 0 is a call without variables.
 pub struct Counts {
@@ -35,6 +38,7 @@ pub struct Counts {
 pub struct Setting {
     pub counts: Counts,
     pub start: u32,
+    pub reading: usize,
 }
 
 // What a check finds: the refusal that comes first, or none.
@@ -56,7 +60,7 @@ pub enum PossibleAnswer {
     No,
 }
 
-// A call without a rule has no variables, and does not look at the domain.
+// A call without a rule has no variables and no tests, and looks neither at the domain nor at the reading.
 fn unvalued(s: Setting) -> Setting
     ensures { λ r. ⌜ r ≡ withoutValues s ⌝ }
 {
@@ -69,6 +73,7 @@ fn unvalued(s: Setting) -> Setting
     Setting {
         counts,
         start: s.start,
+        reading: 0,
     }
 }
 

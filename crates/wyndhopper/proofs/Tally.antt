@@ -8,7 +8,7 @@ use mathlib.Core.Option.{Option}
 use Prim.Native.Nat.{ℕ, _≤_, _<_}
 use native.Mathlib.Omega.{arith}
 use lib.ListN.{length, getD}
-use Rattle.meaning.specs.Limits.{actionLimit, domainLimit, numberLimit}
+use Rattle.meaning.specs.Limits.{actionLimit, domainLimit, readingLimit, numberLimit}
 use Rattle.meaning.specs.Rule.{Rule, ofTest, testKind, Opens, testText, testDepth, testNames, testFree, testVaries}
 use Rattle.meaning.specs.Leads.{Holds}
 use Rattle.meaning.specs.Refusal.{Row, Accepted, BadRule, BadNames, TooDeep, BadJob, Unbound}
@@ -111,21 +111,21 @@ module _ (s : Subject) (a : ℕ) (writable : a < numberLimit) where
         };
       })
 
--- a theory that is accepted without values is accepted with as many as a variable may have
-valued : (s : Setting) (masks log : List ℕ) → s .counts .domain ≤ domainLimit → Accepted (worldRows (subjectOf (unvalued s) masks log))
+-- a theory that is accepted without values is accepted with as many as a variable may have, and with each reading
+valued : (s : Setting) (masks log : List ℕ) → s .counts .domain ≤ domainLimit → s .reading ≤ readingLimit → Accepted (worldRows (subjectOf (unvalued s) masks log))
     → Accepted (worldRows (subjectOf s masks log))
-valued s masks log few a =
-    passes (⊎-elim (⊎-elim (λ h. not-first a (inl (inl h))) (λ h. omega arith)) (λ h. not-first a (inr h))) (not-rest a)
+valued s masks log few known a =
+    passes (⊎-elim (⊎-elim (⊎-elim (λ h. not-first a (inl (inl (inl h)))) (λ h. omega arith)) (λ h. omega arith)) (λ h. not-first a (inr h))) (not-rest a)
 
-pub happened-is-verdict : {s : Setting} {masks log : List ℕ} {t : Tally} → s .counts .domain ≤ domainLimit → Made (unvalued s) masks log t
+pub happened-is-verdict : {s : Setting} {masks log : List ℕ} {t : Tally} → s .counts .domain ≤ domainLimit → s .reading ≤ readingLimit → Made (unvalued s) masks log t
     → (a : ℕ) → a < numberLimit → {number number′ yes yes′ : ℕ}
     → InSlot (HappenedAnswered (s .counts .actions) (t .last) (t .impossible) a number) yes
     → InSlot (VerdictAnswered (subjectOf s masks log) (happenedText a) (length log) (length log) number′) yes′
     → (number ≡ number′) × (yes ≡ yes′)
-happened-is-verdict {s} {masks} {log} {t} few made a writable x y =
+happened-is-verdict {s} {masks} {log} {t} few read made a writable x y =
     let asked = subjectOf s masks log in
     let k = made-kept made in
-    let accepted = valued s masks log few (k .accepted) in
+    let accepted = valued s masks log few read (k .accepted) in
     let known = checked asked accepted .fewActions in
     wyh-verdict-determined asked (happenedText a) (length log) (length log)
     (record {

@@ -11,7 +11,7 @@ use lib.ListN.{length, drop}
 use Rattle.laws.specs.Bit.{on}
 use Rattle.laws.proofs.On.{same-bits}
 use Rattle.laws.proofs.Truth.{same-truth}
-use Rattle.meaning.specs.Theory.{World, Values, varying, noValues, relog}
+use Rattle.meaning.specs.Theory.{World, Values, Reading, nowStep, varying, noValues, relog, owning, asJob}
 use Rattle.meaning.specs.Rule.{Kind, testKind, walkKind, jobKind, Rule, ofTest, ofWalk, Opens, Variable, freeIn, walkFree, testFree, walkVaries}
 use Rattle.meaning.specs.Rule.{Walk, Test, plain, plus, act, undo, next, prev, seq, alt, star, check, conv, pick}
 use Rattle.meaning.specs.Leads.{Rel, Truth, Leads, Holds, Many}
@@ -28,7 +28,7 @@ use Rattle.meaning.proofs.Plain.{leads-plain, holds-plain, walk-out-plain, test
 use Rattle.meaning.proofs.Reach.{reached-as-unique}
 use Rattle.meaning.proofs.Finish.{first-unique}
 use Rattle.meaning.proofs.Refusal.{refused-not-accepted, accepted-parts, one-verdict}
-use Rattle.theory.specs.Subject.{Subject, subjectOf, unvalued, worldOf}
+use Rattle.theory.specs.Subject.{Subject, settingOf, subjectOf, worldOf}
 use Rattle.theory.specs.Rows.{worldRows}
 use Rattle.theory.specs.declared.Setting.{Setting}
 use Rattle.rule.specs.Outcome.{textRows}
@@ -81,26 +81,27 @@ module _ (s : Setting) (masks log : List ℕ) (d : ℕ) (many : s .counts .domai
   some = subjectOf s masks log
 
   abbrev plainly : Subject
-  plainly = subjectOf (unvalued s) masks log
+  plainly = subjectOf (settingOf (s .counts .fluents) (s .counts .actions) 0 (s .start) (s .reading)) masks log
 
   -- a rule that is not refused as 13 has no variable free
   closed : {kind : Kind} {bytes : List ℕ} (r : Rule) → Opens kind bytes r [] → Accepted (textRows true kind bytes (s .counts)) → (v : Variable) → freeIn v r ≡ false
   closed r o (six, (names, (deep, (turned, (unbound, rest))))) = none-free r (λ u. unbound (record { rule = r; spells = o; faulty = u }))
 
-  -- over any log: where the walk leads, and what it waits for; when a test is true
-  leads-same : (x : Walk) → ((v : Variable) → walkFree v x ≡ false) → (l : List ℕ) (p q n : ℕ)
-      → Leads (relog (worldOf some) l) x p q n ↔ Leads (relog (worldOf plainly) l) (spelledOut d x) p q n
-  leads-same x free l p q n =
-      let w = relog (worldOf some) l in
+  -- over any log: where the walk leads, however its own tests are read, and what it waits for as a job; when a test is true
+  leads-same : (r : Reading) (x : Walk) → ((v : Variable) → walkFree v x ≡ false) → (l : List ℕ) (p q n : ℕ)
+      → Leads (relog (owning (worldOf some) r) l) x p q n ↔ Leads (relog (owning (worldOf plainly) r) l) (spelledOut d x) p q n
+  leads-same r x free l p q n =
+      let w = relog (owning (worldOf some) r) l in
       let out = leads-out d w x many p q n in
       let none = leads-plain w 0 noValues (spelledOut d x) (walk-out-plain d x free) in
       (λ h. subst⁻¹ (λ (r : Rel). r p q n) none (out .0 h), λ h. out .1 (subst (λ (r : Rel). r p q n) none h))
 
   asks-same : (x : Walk) → ((v : Variable) → walkFree v x ≡ false) → (p k a : ℕ)
-      → Asks (worldOf some) x p k a ↔ Asks (worldOf plainly) (spelledOut d x) p k a
+      → Asks (asJob (worldOf some)) x p k a ↔ Asks (asJob (worldOf plainly)) (spelledOut d x) p k a
   asks-same x free p k a =
-      let out = asks-out d (worldOf some) x many p k a in
-      let none = asks-plain (worldOf some) 0 noValues (spelledOut d x) (walk-out-plain d x free) in
+      let w = asJob (worldOf some) in
+      let out = asks-out d w x many p k a in
+      let none = asks-plain w 0 noValues (spelledOut d x) (walk-out-plain d x free) in
       (λ h. subst⁻¹ (λ (f : Wait). f p k a) none (out .0 h), λ h. out .1 (subst (λ (f : Wait). f p k a) none h))
 
   holds-same : (t : Test) → ((v : Variable) → testFree v t ≡ false) → (then now : ℕ)
@@ -124,7 +125,7 @@ module _ (s : Setting) (masks log : List ℕ) (d : ℕ) (many : s .counts .domai
   reach-written-out x bytes out then now {set = set} {set′ = set′} {count = count} {count′ = count′} {earliest = earliest} {earliest′ = earliest′} o p a b f g =
       let here = right a f in
       let there = right b g in
-      let same = leads-same x (closed (ofWalk x) o (text-of walkKind bytes then now a)) log in
+      let same = leads-same (worldOf some .own) x (closed (ofWalk x) o (text-of walkKind bytes then now a)) log in
       let found = subst (λ (v : Walk). ReachedAs (worldOf some) v then now set count earliest) (one-walk (here .spells) o) (here .reached) in
       let told = subst (λ (v : Walk). ReachedAs (worldOf plainly) v then now set′ count′ earliest′) (one-walk (there .spells) p) (there .reached) in
       reached-as-unique (worldOf some) x then now found
@@ -173,7 +174,7 @@ module _ (s : Setting) (masks log : List ℕ) (d : ℕ) (many : s .counts .domai
       → Finishes (worldOf some) x more ending ↔ Finishes (worldOf plainly) (spelledOut d x) more ending
   finishes-same x free more ending =
       let end : ℕ = length log + length ending in
-      let same = leads-same x free (log ++ ending) 0 end end in (
+      let same = leads-same nowStep x free (log ++ ending) 0 end end in (
         λ f. record { short = f .short; fits = f .fits; able = f .able; done = same .0 (f .done) },
         λ f. record { short = f .short; fits = f .fits; able = f .able; done = same .1 (f .done) },
       )

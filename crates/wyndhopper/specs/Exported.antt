@@ -20,8 +20,8 @@ use Rattle.wyndhopper.specs.Kinds.{kindAt, noKindRows}
 abbrev pub counted : ℕ → ℕ → ℕ → Counts
 counted fluents actions domain = record { fluents = fluents; actions = actions; domain = domain }
 
-abbrev pub asked : ℕ → ℕ → ℕ → ℕ → List ℕ → List ℕ → Subject
-asked fluents actions domain start masks log = subjectOf (settingOf fluents actions domain start) masks log
+abbrev pub asked : ℕ → ℕ → ℕ → ℕ → ℕ → List ℕ → List ℕ → Subject
+asked fluents actions domain start reading masks log = subjectOf (settingOf fluents actions domain start reading) masks log
 
 -- a verdict in a slot: 1 for yes, 0 for no; 0 on a refusal too
 abbrev pub slotOf : Option Bool → ℕ
@@ -56,9 +56,9 @@ NormalBy none bytes counts before number count after = Refused (noKindRows count
 abbrev pub NormalExported : ℕ → List ℕ → Counts → List ℕ → ℕ → ℕ → List ℕ → Type 0
 NormalExported kind bytes counts before number count after = NormalBy (kindAt kind) bytes counts before number count after
 
--- A sheet in numbers: the line of its refusal; or, behind a 0, fluents, actions, domain, start, the log's steps, where ask and run begin and end, more.
+-- A sheet in numbers: the line of its refusal; or, behind a 0, fluents, actions, domain, start, the log's steps, the reading, where ask and run begin and end, more.
 abbrev pub lineNumbers : ℕ → List ℕ
-lineNumbers place = place ∷ 0 ∷ 0 ∷ 0 ∷ 0 ∷ 0 ∷ 0 ∷ 0 ∷ 0 ∷ 0 ∷ 0 ∷ []
+lineNumbers place = place ∷ 0 ∷ 0 ∷ 0 ∷ 0 ∷ 0 ∷ 0 ∷ 0 ∷ 0 ∷ 0 ∷ 0 ∷ 0 ∷ []
 
 abbrev pub numbersOf : Parsed → List ℕ
 numbersOf p =
@@ -68,6 +68,7 @@ numbersOf p =
     ∷ p .setting .counts .domain
     ∷ p .setting .start
     ∷ p .steps
+    ∷ p .setting .reading
     ∷ p .ask .start
     ∷ p .ask .end
     ∷ p .run .start

@@ -1,6 +1,6 @@
 // The library for programs in other languages: each function is thin over a proved call and promises what that call promises. A slice is a pointer and a
 // length in C; a number beside the refusal is a lent slot, which is always written. A call that takes a rule has the domain of its variables, 0 where it has
-// none; a call without a rule has no domain. Nothing is kept between calls.
+// none; one that asks a rule of a log also how a test inside a walk is read, 0 for `step`, 1 for `end`. A call without a rule has neither. Nothing is kept between calls.
 ghost use Rattle.theory.specs.Subject.{settingOf};
 ghost use Rattle.theory.specs.Answer.{StateAnswered};
 ghost use Rattle.theory.specs.Possible.{PossibleAnswered};
@@ -32,8 +32,8 @@ use theory::PossibleAnswer;
 use theory::Setting;
 use theory::StateAnswer;
 
-// How many numbers a sheet is told in: its line where it is refused, fluents, actions, domain, start, the log's steps, where ask and run begin and end, more.
-pub const SHEET_NUMBERS: usize = 11;
+// How many numbers a sheet is told in: its line where it is refused, fluents, actions, domain, start, the log's steps, the reading, where ask and run begin and end, more.
+pub const SHEET_NUMBERS: usize = 12;
 
 // The state at a position of the log.
 #[no_mangle]
@@ -46,14 +46,18 @@ pub extern "C" fn wyh_state(
     position: usize,
     state: &mut u32,
 ) -> u8
-    ensures { λ r. ⌜ StateAnswered (asked fluents actions 0 start (now (masks .entry)) (now (log .entry))) position r (now (state .exit)) ⌝ }
+    ensures { λ r. ⌜ StateAnswered (asked fluents actions 0 start 0 (now (masks .entry)) (now (log .entry))) position r (now (state .exit)) ⌝ }
 {
     let counts = Counts {
         fluents,
         actions,
         domain: 0,
     };
-    let s = Setting { counts, start };
+    let s = Setting {
+        counts,
+        start,
+        reading: 0,
+    };
     match theory::state(s, masks, log, position) {
         StateAnswer::Refused(why) => {
             *state = 0;
@@ -78,14 +82,18 @@ pub extern "C" fn wyh_possible(
     position: usize,
     yes: &mut u8,
 ) -> u8
-    ensures { λ r. ⌜ InSlot (PossibleAnswered (asked fluents actions 0 start (now (masks .entry)) (now (log .entry))) action position r) (now (yes .exit)) ⌝ }
+    ensures { λ r. ⌜ InSlot (PossibleAnswered (asked fluents actions 0 start 0 (now (masks .entry)) (now (log .entry))) action position r) (now (yes .exit)) ⌝ }
 {
     let counts = Counts {
         fluents,
         actions,
         domain: 0,
     };
-    let s = Setting { counts, start };
+    let s = Setting {
+        counts,
+        start,
+        reading: 0,
+    };
     match theory::possible(s, masks, log, action, position) {
         PossibleAnswer::Refused(why) => {
             *yes = 0;
@@ -109,6 +117,7 @@ pub extern "C" fn wyh_reach(
     actions: usize,
     domain: usize,
     start: u32,
+    reading: usize,
     masks: &[u32],
     log: &[u8],
     walk: &[u8],
@@ -118,14 +127,18 @@ pub extern "C" fn wyh_reach(
     count: &mut u32,
     earliest: &mut u32,
 ) -> u8
-    ensures { λ r. ⌜ ReachAnswered (asked fluents actions domain start (masks .entry .now) (log .entry .now)) (walk .entry .now) then now r (set .exit .now) (count .exit .now) (earliest .exit .now) ⌝ }
+    ensures { λ r. ⌜ ReachAnswered (asked fluents actions domain start reading (masks .entry .now) (log .entry .now)) (walk .entry .now) then now r (set .exit .now) (count .exit .now) (earliest .exit .now) ⌝ }
 {
     let counts = Counts {
         fluents,
         actions,
         domain,
     };
-    let s = Setting { counts, start };
+    let s = Setting {
+        counts,
+        start,
+        reading,
+    };
     match ask::reach(s, masks, log, walk, then, now) {
         ReachAnswer::Refused(why) => {
             *set = 0;
@@ -153,6 +166,7 @@ pub extern "C" fn wyh_verdict(
     actions: usize,
     domain: usize,
     start: u32,
+    reading: usize,
     masks: &[u32],
     log: &[u8],
     test: &[u8],
@@ -160,14 +174,18 @@ pub extern "C" fn wyh_verdict(
     now: usize,
     yes: &mut u8,
 ) -> u8
-    ensures { λ r. ⌜ InSlot (VerdictAnswered (asked fluents actions domain start (masks .entry .now) (log .entry .now)) (test .entry .now) then now r) (yes .exit .now) ⌝ }
+    ensures { λ r. ⌜ InSlot (VerdictAnswered (asked fluents actions domain start reading (masks .entry .now) (log .entry .now)) (test .entry .now) then now r) (yes .exit .now) ⌝ }
 {
     let counts = Counts {
         fluents,
         actions,
         domain,
     };
-    let s = Setting { counts, start };
+    let s = Setting {
+        counts,
+        start,
+        reading,
+    };
     match ask::verdict(s, masks, log, test, then, now) {
         VerdictAnswer::Refused(why) => {
             *yes = 0;
@@ -191,6 +209,7 @@ pub extern "C" fn wyh_board(
     actions: usize,
     domain: usize,
     start: u32,
+    reading: usize,
     masks: &[u32],
     log: &[u8],
     tests: &[u8],
@@ -199,14 +218,18 @@ pub extern "C" fn wyh_board(
     out: &mut [u8],
     count: &mut usize,
 ) -> u8
-    ensures { λ r. ⌜ BoardAnswered (asked fluents actions domain start (masks .entry .now) (log .entry .now)) (tests .entry .now) then now (out .entry .now) r (count .exit .now) (out .exit .now) ⌝ }
+    ensures { λ r. ⌜ BoardAnswered (asked fluents actions domain start reading (masks .entry .now) (log .entry .now)) (tests .entry .now) then now (out .entry .now) r (count .exit .now) (out .exit .now) ⌝ }
 {
     let counts = Counts {
         fluents,
         actions,
         domain,
     };
-    let s = Setting { counts, start };
+    let s = Setting {
+        counts,
+        start,
+        reading,
+    };
     match board::board(s, masks, log, tests, then, now, out) {
         BoardAnswer::Refused(why) => {
             *count = 0;
@@ -226,6 +249,7 @@ pub extern "C" fn wyh_finish(
     actions: usize,
     domain: usize,
     start: u32,
+    reading: usize,
     masks: &[u32],
     log: &[u8],
     job: &[u8],
@@ -233,14 +257,18 @@ pub extern "C" fn wyh_finish(
     out: &mut [u8],
     count: &mut usize,
 ) -> u8
-    ensures { λ r. ⌜ FinishAnswered (asked fluents actions domain start (now (masks .entry)) (now (log .entry))) (now (job .entry)) more (now (out .entry)) r (now (count .exit)) (now (out .exit)) ⌝ }
+    ensures { λ r. ⌜ FinishAnswered (asked fluents actions domain start reading (now (masks .entry)) (now (log .entry))) (now (job .entry)) more (now (out .entry)) r (now (count .exit)) (now (out .exit)) ⌝ }
 {
     let counts = Counts {
         fluents,
         actions,
         domain,
     };
-    let s = Setting { counts, start };
+    let s = Setting {
+        counts,
+        start,
+        reading,
+    };
     match finish::finish(s, masks, log, job, more, out) {
         FinishAnswer::Refused(why) => {
             *count = 0;
@@ -260,19 +288,24 @@ pub extern "C" fn wyh_next(
     actions: usize,
     domain: usize,
     start: u32,
+    reading: usize,
     masks: &[u32],
     log: &[u8],
     job: &[u8],
     next: &mut u64,
 ) -> u8
-    ensures { λ r. ⌜ NextAnswered (asked fluents actions domain start (now (masks .entry)) (now (log .entry))) (now (job .entry)) r (now (next .exit)) ⌝ }
+    ensures { λ r. ⌜ NextAnswered (asked fluents actions domain start reading (now (masks .entry)) (now (log .entry))) (now (job .entry)) r (now (next .exit)) ⌝ }
 {
     let counts = Counts {
         fluents,
         actions,
         domain,
     };
-    let s = Setting { counts, start };
+    let s = Setting {
+        counts,
+        start,
+        reading,
+    };
     match finish::next(s, masks, log, job) {
         NextAnswer::Refused(why) => {
             *next = 0;
@@ -346,7 +379,7 @@ pub extern "C" fn wyh_read_sheet(
 {
     match sheet::read_sheet(sheet, masks, log) {
         SheetAnswer::Faulty(f) => {
-            *numbers = [f.line, 0, 0, 0, 0, 0, 0, 0, 0, 0, 0];
+            *numbers = [f.line, 0, 0, 0, 0, 0, 0, 0, 0, 0, 0, 0];
             let why = f.refusal;
             refusal::number(why)
         }
@@ -363,6 +396,7 @@ pub extern "C" fn wyh_read_sheet(
                 counts.domain,
                 start,
                 p.steps,
+                setting.reading,
                 ask.start,
                 ask.end,
                 run.start,
@@ -384,7 +418,7 @@ pub extern "C" fn wyh_tally(
     log: &[u8],
     tally: &mut Tally,
 ) -> u8
-    ensures { λ r. ⌜ Remade (asked fluents actions 0 start (now (masks .entry)) (now (log .entry))) (now (tally .entry)) r (now (tally .exit)) ⌝ }
+    ensures { λ r. ⌜ Remade (asked fluents actions 0 start 0 (now (masks .entry)) (now (log .entry))) (now (tally .entry)) r (now (tally .exit)) ⌝ }
 {
     tally::reset(fluents, actions, start, masks, log, tally)
 }
@@ -399,7 +433,7 @@ pub extern "C" fn wyh_append(
     tally: &mut Tally,
     action: usize,
 ) -> u8
-    ensures { λ r. ⌜ Appended (settingOf fluents actions 0 start) (now (masks .entry)) (now (tally .entry)) action r (now (tally .exit)) ⌝ }
+    ensures { λ r. ⌜ Appended (settingOf fluents actions 0 start 0) (now (masks .entry)) (now (tally .entry)) action r (now (tally .exit)) ⌝ }
 {
     tally::append(fluents, actions, start, masks, tally, action)
 }

@@ -3,7 +3,7 @@ use crate::places::Places;
 use crate::progress::Progress;
 use crate::signs::{At, Behind, Part};
 use crate::tree::{Node, Values};
-use wyndhopper::{Job, Kind, Refusal};
+use wyndhopper::{Job, Kind, Reading, Refusal};
 
 /// From how many places, the latest, a part is seen that is asked behind a walk of a test that sees up to its own place.
 const SEEN: usize = 8;
@@ -56,20 +56,21 @@ pub struct Asker<'a> {
 }
 
 impl Asker<'_> {
-    /// Asks about every part of a rule: a test at the log's end, a walk from the start of the log to its end.
+    /// Asks about every part of a rule: a test at the log's end, a job from the start of the log to its end. A job's own tests keep their own place, whatever the sheet says of others.
     pub fn ask_all(&self, node: &mut Node) -> Result<(), Refusal> {
         let end = self.job.log().len();
-        let from = if node.kind == Kind::Test { end } else { 0 };
+        let (from, own) = if node.kind == Kind::Test { (end, self.job.reading()) } else { (0, Reading::Step) };
         let mut told = (0, node.count());
-        self.ask(node, vec![Asked { now: Now::At(end), values: Values::new(), at: Places::from([from]) }], 0, &mut told)
+        self.ask(node, vec![Asked { now: Now::At(end), values: Values::new(), at: Places::from([from]) }], own, 0, &mut told)
     }
 
-    /// Asks about a part in each way, and then about its own parts. `left_out`: how many were left out on the way here.
-    fn ask(&self, node: &mut Node, asked: Vec<Asked>, left_out: usize, told: &mut (usize, usize)) -> Result<(), Refusal> {
+    /// Asks about a part in each way, and then about its own parts. `own`: how its own `?` are read. `left_out`: how many were left out on the way here.
+    fn ask(&self, node: &mut Node, asked: Vec<Asked>, own: Reading, left_out: usize, told: &mut (usize, usize)) -> Result<(), Refusal> {
         told.0 += 1;
         self.progress.at(format!("asking about the {}, part {} of {}", self.rule, told.0, told.1));
-        node.left_out = left_out + asked.len().saturating_sub(ROWS);
-        node.rows = asked.into_iter().take(ROWS).map(|asked| self.row(node, asked)).collect::<Result<_, _>>()?;
+        let most = if self.asker(node, own).is_some() { ROWS } else { 0 };
+        node.left_out = left_out + asked.len().saturating_sub(most);
+        node.rows = asked.into_iter().take(most).map(|asked| self.row(node, asked, own)).collect::<Result<_, _>>()?;
         let behind: &[Part] = match node.sign.map(|sign| sign.behind) {
             Some(Behind::Parts(parts)) => parts,
             Some(Behind::Turned) => &[Part { kind: Kind::Walk, lead: "", at: At::Here }],
@@ -80,10 +81,13 @@ impl Asker<'_> {
                 At::Here => (node.rows.iter().map(here).collect(), 0),
                 At::Behind => led_to(&node.parts[k - 1].rows),
                 At::Rounds => led_to(&node.rows),
-                At::UpToHere => (up_to_here(&node.rows), 0),
+                At::UpToHere if own == Reading::Step => (up_to_here(&node.rows), 0),
+                At::UpToHere => (node.rows.iter().map(here).collect(), 0),
                 At::EachValue => (self.each_value(node), 0),
             };
-            self.ask(&mut node.parts[k], next, node.left_out + early, told)?;
+            let within = node.kind == Kind::Test && part.kind == Kind::Walk;
+            let own = if within { self.job.reading() } else { own };
+            self.ask(&mut node.parts[k], next, own, node.left_out + early, told)?;
         }
         self.ask_from_end(node)
     }
@@ -93,35 +97,42 @@ impl Asker<'_> {
         if node.kind == Kind::Test {
             let end = self.job.log().len();
             for walk in node.parts.iter_mut().filter(|part| part.kind == Kind::Walk) {
-                walk.from_end = Some(self.reached(&walk.closed(), end, end)?);
+                walk.from_end = Some(reached(self.job, &walk.closed(), end, end)?);
             }
         }
         Ok(())
     }
 
-    fn row(&self, node: &Node, asked: Asked) -> Result<Row, Refusal> {
+    /// The job that is asked about a part whose own `?` are read so: the library reads all those of a question alike. A part of a job that has some of its own and others inside a `<`, on a sheet
+    /// that reads these otherwise, cannot be asked about by itself.
+    fn asker(&self, node: &Node, own: Reading) -> Option<Job<'_>> {
+        match node.checks() {
+            _ if node.kind == Kind::Test || own == self.job.reading() => Some(*self.job),
+            (false, _) => Some(*self.job),
+            (true, false) => Some(self.job.with_reading(own)),
+            (true, true) => None,
+        }
+    }
+
+    fn row(&self, node: &Node, asked: Asked, own: Reading) -> Result<Row, Refusal> {
+        let job = self.asker(node, own).expect("a part that can be asked about");
         let Asked { now, values, at } = asked;
         let text = node.spelled(&values);
         let mut ways = Vec::new();
         let mut found = Places::new();
         if node.kind == Kind::Test {
             for place in 0..=now.at(self.job.log().len()) {
-                if self.job.verdict(&text, place, now.at(place))? {
+                if job.verdict(&text, place, now.at(place))? {
                     found.insert(place);
                 }
             }
         } else {
             for &from in &at {
-                ways.push((from, self.reached(&text, from, now.at(from))?));
+                ways.push((from, reached(&job, &text, from, now.at(from))?));
             }
             found.extend(ways.iter().flat_map(|(_, to)| to));
         }
         Ok(Row { now, values, at, found, ways })
-    }
-
-    fn reached(&self, walk: &[u8], from: usize, now: usize) -> Result<Places, Refusal> {
-        let reached = self.job.reach(walk, from, now)?;
-        Ok((0..=now).filter(|&place| reached.holds(place)).collect())
     }
 
     /// Each row once with each value of the variable that the part binds; an outer one of the same name is hidden.
@@ -133,6 +144,11 @@ impl Asker<'_> {
         };
         node.rows.iter().flat_map(|row| (0..self.job.domain()).map(move |value| with(row, value))).collect()
     }
+}
+
+fn reached(job: &Job, walk: &[u8], from: usize, now: usize) -> Result<Places, Refusal> {
+    let reached = job.reach(walk, from, now)?;
+    Ok((0..=now).filter(|&place| reached.holds(place)).collect())
 }
 
 fn here(row: &Row) -> Asked {

@@ -36,7 +36,7 @@ pub enum At {
     Behind,
     /// Where the sign itself leads: a star's next round begins there.
     Rounds,
-    /// Where the sign is, and the log is seen up to there only.
+    /// Where the sign is, and the log is seen up to there only, unless the sheet says otherwise.
     UpToHere,
     /// Where the sign itself is, with each value of its variable.
     EachValue,

@@ -29,8 +29,7 @@ impl Standing {
     /// Asks about the job, whose tree has been asked about; the steps that it waits with are marked in the tree.
     pub fn of(sheet: &Sheet, run: &mut Node, progress: &Progress) -> Result<Standing, Refusal> {
         let job = &sheet.job;
-        let end = job.log().len();
-        let mut follows = 0;
+        let mut follows = if run.rows.is_empty() { followed(sheet) } else { 0 };
         own_walk(run, &mut |node| {
             follows = follows.max(node.rows.iter().filter_map(|row| row.at.last().max(row.found.last())).max().copied().unwrap_or(0))
         });
@@ -53,9 +52,18 @@ impl Standing {
                 longer = sought(sheet, asked..=asked, progress)?;
             }
         }
-        let ended = job.reach(sheet.run, 0, end)?.holds(end);
+        let ended = sought(sheet, 0..=0, progress)?.is_some();
         Ok(Standing { follows, ended, waits, next, finish, longer, asked, room: room(job) })
     }
+}
+
+/// The last position at which something may come next, or the job is at its end: of a job that is not asked about part by part.
+fn followed(sheet: &Sheet) -> usize {
+    let comes_to = |place: &usize| {
+        let cut = sheet.job.with_log(&sheet.job.log()[..*place]);
+        cut.next(sheet.run).is_ok_and(|next| next != 0) || cut.finish(sheet.run, 0, &mut []).is_ok()
+    };
+    (0..=sheet.job.log().len()).rev().find(comes_to).unwrap_or(0)
 }
 
 /// The first finishing sequence, for each bound in turn, so that long work can tell how far it is.

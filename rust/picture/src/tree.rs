@@ -1,7 +1,7 @@
 //! A rule as a tree. Where a part ends the library says, which reads the part and hands back the rest; from the table of signs comes only which kinds of parts there are.
 use crate::asked::Row;
 use crate::places::Places;
-use crate::signs::{opening, Behind, Own, Sign};
+use crate::signs::{opening, At, Behind, Own, Sign};
 use wyndhopper::{Job, Kind, RULE_ROOM};
 
 /// Values for variables, each variable once.
@@ -54,6 +54,24 @@ impl Node {
     /// It looks away from the place where it is asked, so that it matters how far it sees.
     pub fn looks(&self) -> bool {
         self.kind == Kind::Walk || self.parts.iter().any(Node::looks)
+    }
+
+    /// Whether it has a test as a step outside every `<` walk, and whether inside one.
+    pub fn checks(&self) -> (bool, bool) {
+        let mut found = (false, false);
+        self.find_checks(false, &mut found);
+        found
+    }
+
+    fn find_checks(&self, inside: bool, found: &mut (bool, bool)) {
+        if let Some(Behind::Parts(parts)) = self.sign.map(|sign| sign.behind) {
+            if parts.iter().any(|part| part.at == At::UpToHere) {
+                *(if inside { &mut found.1 } else { &mut found.0 }) = true;
+            }
+        }
+        for part in &self.parts {
+            part.find_checks(inside || (self.kind == Kind::Test && part.kind == Kind::Walk), found);
+        }
     }
 
     /// How many parts there are, this one among them.

@@ -77,7 +77,10 @@ fn adds_up(node: &Node, facts: &Facts) {
             b';' => assert_eq!(row.found, part(1)),
             b'|' => assert_eq!(row.found, &part(0) | &part(1)),
             b'*' => assert_eq!(row.found, &row.at | &part(0)),
-            b'?' => assert_eq!(row.found, &row.at & &behind(0, Now::Own, &row.values)),
+            b'?' => {
+                let own = node.parts[0].rows.iter().any(|row| row.now == Now::Own);
+                assert_eq!(row.found, &row.at & &behind(0, if own { Now::Own } else { row.now }, &row.values));
+            }
             b'-' => assert_eq!(row.found, part(0)),
             b'e' | b'p' => assert_eq!(row.found, (0..facts.domain).flat_map(with).collect::<Places>()),
             _ => assert!(node.parts.is_empty()),
@@ -142,4 +145,22 @@ fn a_test_of_a_stay_sees_up_to_its_own_place() {
     assert_eq!((stay.text.as_slice(), stay.parts[0].rows[0].now), (&b"?<a011"[..], Now::Own));
     assert!(stay.parts[0].rows[0].found.is_empty());
     assert_eq!(stay.parts[0].parts[0].kind, Kind::Walk);
+}
+
+/// On a sheet that says so it sees the whole log, but for a job's own; and a part of a job with both is not asked about by itself.
+#[test]
+fn a_test_of_a_stay_sees_the_whole_log_where_the_sheet_says_so() {
+    let lines = ["log=0001", "ask=<;*u?<a0111", "run=;a00;?<a011a01"];
+    let facts_of = |more: &[&str]| facts(&with_lines(&example("returns.sheet"), &[&lines[..], more].concat()));
+    let shown = facts_of(&[]);
+    let stay = &shown.ask.parts[0].parts[1];
+    assert_eq!((stay.text.as_slice(), stay.parts[0].rows[0].now), (&b"?<a011"[..], Now::At(2)));
+    assert_eq!(stay.parts[0].rows[0].found, Places::from([1]));
+    assert!(shown.verdict() && !facts_of(&["now=step"]).verdict());
+    let own = &shown.run.parts[1].parts[0];
+    assert_eq!((own.text.as_slice(), own.parts[0].rows[0].now), (&b"?<a011"[..], Now::Own));
+    assert!(!shown.standing.ended);
+    let both = facts_of(&["run=;a00;a01?<-;a00;?<a011a011"]);
+    assert!(both.standing.ended && both.run.rows.is_empty() && both.run.left_out == 1);
+    assert_eq!(both.standing.follows, 2);
 }

@@ -1,11 +1,11 @@
 //! The whole board: its bytes, its refusals, and that each byte is what the library itself says of that test alone.
 use crate::calls;
 use crate::make::{self, Dice, Input};
-use crate::{counts, job, numbered, place, same, written, Tally};
+use crate::{counts, job, place, same, same_safe, written, Tally};
 use wyndhopper::{board_verdict, Job};
 
 /// Tests with an LF behind each, mostly a few; now and then as many as a board may have, or more; now and then with the last LF missing, or bytes where no test is.
-fn text(d: &mut Dice, i: &Input) -> Vec<u8> {
+pub fn text(d: &mut Dice, i: &Input) -> Vec<u8> {
     let many = if d.once_in(8) { d.pick(&[63, 64, 65, 66]) } else { d.below(6) };
     let mut text = Vec::new();
     for _ in 0..many {
@@ -44,12 +44,12 @@ pub fn boards(d: &mut Dice, i: &Input, tally: &mut Tally) {
     let text = text(d, i);
     let lines = text.iter().filter(|&&b| b == b'\n').count();
     let room = if d.once_in(6) { d.below(lines + 1) } else { lines + d.below(3) };
-    let plain = oracle::board::board(counts(i), i.start, &i.masks, &i.log, &text, then, now, room);
+    let plain = oracle::board::board(counts(i), i.start, i.reading, &i.masks, &i.log, &text, then, now, room);
     tally.note("board", &plain);
     same("board", &(i, &text, then, now, room), calls::board(i, &text, then, now, room), written(room, &plain));
     let mut out = vec![0; room];
-    let safe = numbered(job(i).board(&text, then, now, &mut out)).map(|count| out[..count].to_vec());
-    same("board, safe", &(i, &text, then, now, room), &safe, &plain);
+    let safe = job(i).board(&text, then, now, &mut out).map(|count| out[..count].to_vec());
+    same_safe("board, safe", i, &(i, &text, then, now, room), safe, plain.clone());
     if let Ok(bytes) = plain {
         singly(&job(i), &text, then, now, &bytes);
         let refused = bytes.iter().find(|&&b| b > 1).map_or(Ok(()), |b| Err(b - 16));

@@ -51,6 +51,7 @@ pub fn reach(i: &Input, walk: &[u8], then: usize, now: usize) -> (u8, u64, u32, 
             i.actions,
             i.domain,
             i.start,
+            i.reading,
             i.masks.as_ptr(),
             i.masks.len(),
             i.log.as_ptr(),
@@ -75,6 +76,7 @@ pub fn verdict(i: &Input, test: &[u8], then: usize, now: usize) -> (u8, u8) {
             i.actions,
             i.domain,
             i.start,
+            i.reading,
             i.masks.as_ptr(),
             i.masks.len(),
             i.log.as_ptr(),
@@ -98,6 +100,7 @@ pub fn finish(i: &Input, run: &[u8], more: usize, room: usize) -> (u8, usize, Ve
             i.actions,
             i.domain,
             i.start,
+            i.reading,
             i.masks.as_ptr(),
             i.masks.len(),
             i.log.as_ptr(),
@@ -122,6 +125,7 @@ pub fn board(i: &Input, tests: &[u8], then: usize, now: usize, room: usize) -> (
             i.actions,
             i.domain,
             i.start,
+            i.reading,
             i.masks.as_ptr(),
             i.masks.len(),
             i.log.as_ptr(),
@@ -165,6 +169,7 @@ pub fn next(i: &Input, run: &[u8]) -> (u8, u64) {
             i.actions,
             i.domain,
             i.start,
+            i.reading,
             i.masks.as_ptr(),
             i.masks.len(),
             i.log.as_ptr(),
@@ -224,15 +229,15 @@ impl SheetLent {
     fn new() -> Self {
         let masks = (0..(wyndhopper::MASKS_ROOM + 2) as u32).map(|k| k.wrapping_mul(0x9e37_79b9)).collect();
         let log = (0..wyndhopper::LOG_ROOM + 2).map(|k| (k as u8).wrapping_mul(37) ^ 0xa5).collect();
-        SheetLent { masks, log, numbers: vec![usize::from_ne_bytes([FILLED; 8]); 13] }
+        SheetLent { masks, log, numbers: vec![usize::from_ne_bytes([FILLED; 8]); 14] }
     }
 
     /// What it holds after these masks, this log and these numbers were written.
-    pub fn with(masks: &[u32], log: &[u8], numbers: [usize; 11]) -> Self {
+    pub fn with(masks: &[u32], log: &[u8], numbers: [usize; 12]) -> Self {
         let mut lent = Self::new();
         lent.masks[1..=masks.len()].copy_from_slice(masks);
         lent.log[1..=log.len()].copy_from_slice(log);
-        lent.numbers[1..=11].copy_from_slice(&numbers);
+        lent.numbers[1..=12].copy_from_slice(&numbers);
         lent
     }
 }

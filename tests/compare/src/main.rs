@@ -10,7 +10,7 @@ use calls::{Lent, SheetLent};
 use make::{Dice, Input};
 use oracle::rule::{Counts, Kind as Plain};
 use std::collections::BTreeMap;
-use wyndhopper::{Job, Kind, Refusal, Sheet, SheetRoom};
+use wyndhopper::{Job, Kind, Reading, Refusal, Sheet, SheetRoom};
 
 const KINDS: [(Kind, Plain); 3] = [(Kind::Test, Plain::Test), (Kind::Walk, Plain::Walk), (Kind::Run, Plain::Job)];
 
@@ -47,8 +47,21 @@ fn same<T: PartialEq + std::fmt::Debug>(what: &str, input: &dyn std::fmt::Debug,
     }
 }
 
+/// The reading with this number, which the safe crate has for two of them alone.
+fn reading(number: usize) -> Option<Reading> {
+    [Reading::Step, Reading::End].get(number).copied()
+}
+
 fn job(i: &Input) -> Job<'_> {
-    Job::new(i.fluents, i.actions, &i.masks).with_start(i.start).with_log(&i.log).with_domain(i.domain)
+    let job = Job::new(i.fluents, i.actions, &i.masks).with_start(i.start).with_log(&i.log).with_domain(i.domain);
+    job.with_reading(reading(i.reading).unwrap_or(Reading::Step))
+}
+
+/// The safe crate's answer is the second implementation's, where it can be asked.
+fn same_safe<T: PartialEq + std::fmt::Debug>(what: &str, i: &Input, input: &dyn std::fmt::Debug, safe: Result<T, Refusal>, plain: Result<T, u8>) {
+    if reading(i.reading).is_some() {
+        same(what, input, numbered(safe), plain);
+    }
 }
 
 fn counts(i: &Input) -> Counts {
@@ -86,18 +99,18 @@ fn questions(d: &mut Dice, i: &Input, tally: &mut Tally) {
     let now = place(d, &i.log);
     let then = if now < 64 { d.below(now + 1) + d.below(2) * d.below(2) } else { 0 };
     let walk = make::rule(d, 1, i);
-    let plain = oracle::ask::reach(counts(i), i.start, &i.masks, &i.log, &walk, then, now).map(|r| (r.set, r.count, r.earliest));
+    let plain = oracle::ask::reach(counts(i), i.start, i.reading, &i.masks, &i.log, &walk, then, now).map(|r| (r.set, r.count, r.earliest));
     tally.note_rule("reach", &walk, &plain);
     let slots = plain.map_or_else(|n| (n, 0, 0, 64), |(set, count, earliest)| (0, set, count, earliest));
     same("reach", &(i, &walk, then, now), calls::reach(i, &walk, then, now), slots);
     let safe = job(i).reach(&walk, then, now).map(|r| (r.set[0], r.count as u32, r.earliest as u32));
-    same("reach, safe", &(i, &walk, then, now), numbered(safe), plain);
+    same_safe("reach, safe", i, &(i, &walk, then, now), safe, plain);
 
     let test = make::rule(d, 0, i);
-    let plain = oracle::ask::verdict(counts(i), i.start, &i.masks, &i.log, &test, then, now);
+    let plain = oracle::ask::verdict(counts(i), i.start, i.reading, &i.masks, &i.log, &test, then, now);
     tally.note_rule("verdict", &test, &plain);
     same("verdict", &(i, &test, then, now), calls::verdict(i, &test, then, now), plain.map_or_else(|n| (n, 0), |yes| (0, u8::from(yes))));
-    same("verdict, safe", &(i, &test, then, now), numbered(job(i).verdict(&test, then, now)), plain);
+    same_safe("verdict, safe", i, &(i, &test, then, now), job(i).verdict(&test, then, now), plain);
 }
 
 /// What a scheduler asks before the next label.
@@ -110,10 +123,10 @@ fn onward(d: &mut Dice, i: &Input, tally: &mut Tally) {
     same("possible, safe", &(i, action, p), numbered(job(i).possible(action, p)), plain);
 
     let (run, i) = make::run(d, i, 4);
-    let plain = oracle::next::next(counts(&i), i.start, &i.masks, &i.log, &run);
+    let plain = oracle::next::next(counts(&i), i.start, i.reading, &i.masks, &i.log, &run);
     tally.note_rule("next", &run, &plain);
     same("next", &(&i, &run), calls::next(&i, &run), plain.map_or_else(|n| (n, 0), |set| (0, set)));
-    same("next, safe", &(&i, &run), numbered(job(&i).next(&run)), plain);
+    same_safe("next, safe", &i, &(&i, &run), job(&i).next(&run), plain);
 }
 
 fn texts(d: &mut Dice, i: &Input, tally: &mut Tally) {
@@ -150,13 +163,13 @@ fn finishes(d: &mut Dice, i: &Input, tally: &mut Tally) {
 
 fn finish(d: &mut Dice, i: &Input, run: &[u8], more: usize, tally: &mut Tally) {
     let room = more + d.below(3) - d.below(2).min(more);
-    let plain = oracle::finish::finish(counts(i), i.start, &i.masks, &i.log, run, more, room);
+    let plain = oracle::finish::finish(counts(i), i.start, i.reading, &i.masks, &i.log, run, more, room);
     let call = if plain.as_ref().is_ok_and(|w| !w.is_empty()) { "finish with actions" } else { "finish" };
     tally.note_rule(call, run, &plain);
     same("finish", &(i, run, more, room), calls::finish(i, run, more, room), written(room, &plain));
     let mut out = vec![0; room];
     let safe = job(i).finish(run, more, &mut out).map(|count| out[..count].to_vec());
-    same("finish, safe", &(i, run, more, room), numbered(safe), plain);
+    same_safe("finish, safe", i, &(i, run, more, room), safe, plain);
 }
 
 fn sheets(d: &mut Dice, tally: &mut Tally) {
@@ -179,18 +192,19 @@ fn read_sheets(sheet: &[u8], text: &str, tally: &mut Tally) {
     let safe = Sheet::read(sheet, &mut room);
     match plain {
         Err((number, line)) => {
-            same("read_sheet", &text, calls::read_sheet(sheet), (number, SheetLent::with(&[], &[], [line, 0, 0, 0, 0, 0, 0, 0, 0, 0, 0])));
+            same("read_sheet", &text, calls::read_sheet(sheet), (number, SheetLent::with(&[], &[], [line, 0, 0, 0, 0, 0, 0, 0, 0, 0, 0, 0])));
             same("read_sheet, safe", &text, safe.map(|_| ()).map_err(|f| (f.refusal.number(), f.line)), Err((number, line)));
             same("room of a refused sheet", &text, room, SheetRoom::new());
         }
         Ok(r) => {
             let masks: Vec<u32> = r.theory.masks.iter().flat_map(|m| m.row()).collect();
             let (t, steps) = (&r.theory, r.log.len());
-            let numbers = [0, t.fluents, t.actions, r.domain, t.start as usize, steps, r.ask.0, r.ask.1, r.run.0, r.run.1, r.more];
+            let numbers = [0, t.fluents, t.actions, r.domain, t.start as usize, steps, r.reading as usize, r.ask.0, r.ask.1, r.run.0, r.run.1, r.more];
             same("read_sheet", &text, calls::read_sheet(sheet), (0, SheetLent::with(&masks, &r.log, numbers)));
             let s = safe.expect("a sheet that is not refused");
             let ours = (s.job, s.ask, s.run, s.more);
             let plain_job = Job::new(t.fluents, t.actions, &masks).with_domain(r.domain).with_start(t.start).with_log(&r.log);
+            let plain_job = plain_job.with_reading(reading(r.reading as usize).expect("one of two"));
             same("read_sheet, safe", &text, ours, (plain_job, &sheet[r.ask.0..r.ask.1], &sheet[r.run.0..r.run.1], r.more));
         }
     }

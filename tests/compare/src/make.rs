@@ -29,12 +29,13 @@ impl Dice {
     }
 }
 
-/// A theory, a log and a domain as a call has them, right or wrong.
+/// A theory, a log, a domain and a reading as a call has them, right or wrong.
 #[derive(Clone, Debug)]
 pub struct Input {
     pub fluents: usize,
     pub actions: usize,
     pub domain: usize,
+    pub reading: usize,
     pub start: u32,
     pub masks: Vec<u32>,
     pub log: Vec<u8>,
@@ -95,7 +96,8 @@ pub fn input(d: &mut Dice) -> Input {
     let steps = d.pick(&[0, 1, 2, 3, 4, 5, 8, 13, 30, 62, 63]);
     let log = (0..steps).map(|_| d.below(actions) as u8).collect();
     let domain = domain(d, fluents, actions);
-    let mut made = Input { fluents, actions, domain, start, masks, log };
+    let reading = d.below(2);
+    let mut made = Input { fluents, actions, domain, reading, start, masks, log };
     if d.once_in(8) {
         damage(d, &mut made);
     }
@@ -114,7 +116,7 @@ fn domain(d: &mut Dice, fluents: usize, actions: usize) -> usize {
 }
 
 fn damage(d: &mut Dice, i: &mut Input) {
-    match d.below(10) {
+    match d.below(11) {
         0 => i.fluents = d.pick(&[33, 64, 65, usize::MAX]),
         1 => i.actions = d.pick(&[0, 65, 100, usize::MAX]),
         2 => i.masks.push(0),
@@ -129,6 +131,7 @@ fn damage(d: &mut Dice, i: &mut Input) {
         6 => i.log = vec![0; 63 + d.below(3)],
         7 => i.log.push(d.next() as u8),
         8 => i.domain = d.pick(&[17, 18, 64, 255, 256, usize::MAX]),
+        9 => i.reading = d.pick(&[2, 3, 255, 256, usize::MAX]),
         _ => i.masks.clear(),
     }
 }
@@ -317,7 +320,7 @@ fn alike(d: &mut Dice) -> Input {
     }
     let log = (0..d.below(4)).map(|_| d.below(actions) as u8).collect();
     let domain = if d.once_in(2) { 0 } else { 1 + d.below(fluents.min(actions)) };
-    Input { fluents, actions, domain, start: mask(d, fluents), masks, log }
+    Input { fluents, actions, domain, reading: d.below(2), start: mask(d, fluents), masks, log }
 }
 
 /// A job that is looked for long: it begins with `*n` or waits for any action further on, takes up to all six steps, has actions that stand in for one another, or cannot be finished.
@@ -388,11 +391,16 @@ pub fn sheet(d: &mut Dice) -> Vec<u8> {
     let more = if i.actions > 4 { d.below(3) } else { d.below(5) };
     let (run, i) = run(d, &i, more);
     let hex = |m: &u32| format!("{m:08x}");
-    // Version 1 has no domain, and only version 3 has conditions; now and then it is otherwise.
+    // Version 1 has no domain, only versions 3 and 4 have conditions, and only version 4 has a reading; now and then it is otherwise.
     let depends = i.masks.chunks(ROW).any(|m| m[2..4] != [0; 2] || m[6..] != [0; 4]);
-    let right = if i.domain == 0 { 1 } else if depends || d.once_in(4) { 3 } else { 2 };
-    let version = if d.once_in(30) { d.pick(&[0, 1, 2, 3, 4]) } else { right };
-    let ten = (version == 3) != d.once_in(60);
+    let right = match i.domain {
+        0 => 1,
+        _ if i.reading == 1 || d.once_in(4) => 4,
+        _ if depends || d.once_in(4) => 3,
+        _ => 2,
+    };
+    let version = if d.once_in(30) { d.pick(&[0, 1, 2, 3, 4, 5]) } else { right };
+    let ten = (version >= 3) != d.once_in(60);
     let mut s = format!("sheet={version}\nfluents={:02}\nactions={:02}\n", i.fluents, i.actions);
     if (version > 1) != d.once_in(30) {
         s += &format!("domain={:02}\n", i.domain);
@@ -403,6 +411,10 @@ pub fn sheet(d: &mut Dice) -> Vec<u8> {
         s += &format!("act={}\n", m.iter().map(hex).collect::<Vec<_>>().join(","));
     }
     s += &format!("log={}\n", i.log.iter().map(|a| format!("{a:02}")).collect::<String>());
+    if (version > 3) != d.once_in(60) {
+        let other = d.pick(&["End", "Step", "", "steps", "en", "end ", "0", "1"]);
+        s += &format!("now={}\n", if d.once_in(30) { other } else { ["step", "end"][i.reading.min(1)] });
+    }
     let mut bytes = s.into_bytes();
     bytes.extend([b"ask=".to_vec(), rule(d, 0, &i), b"\nrun=".to_vec(), run, b"\n".to_vec()].concat());
     bytes.extend_from_slice(format!("more={more}\n").as_bytes());
@@ -425,6 +437,6 @@ fn damage_sheet(d: &mut Dice, s: &mut Vec<u8>) {
         2 => s.insert(k, d.pick(b"\n0f=,")),
         3 => s.truncate(k),
         4 => s.extend_from_slice(b"more=1\n"),
-        _ => s.resize(d.pick(&[3263, 3273, 5000, 6728, 6729, 6730, 9000]), b'0'),
+        _ => s.resize(d.pick(&[3263, 3273, 5000, 6729, 6730, 6737, 6738, 6739, 9000]), b'0'),
     }
 }

@@ -1,4 +1,5 @@
-//! Document 01, the two tables and "What may be asked": a walk is a table of pairs of positions at most now. Document 02, Q-2: with variables, one such table for each of their values.
+//! Document 01, the two tables and "What may be asked": a walk is a table of pairs of positions at most now. Document 02, Q-2: with variables, one such table for each of their values; Q-7: a test
+//! inside a walk has its own position for now, or the outer now.
 use crate::rule::{exactly, Counts, Kind, Name, Rule, Test, Walk, LETTERS};
 use crate::theory::{check, check_with, possible, states, Theory};
 use crate::Refusal;
@@ -25,17 +26,36 @@ pub fn number(name: &Name, values: Values) -> usize {
     name.number + name.plus.map_or(0, |v| values[place(v)].expect("a bound variable"))
 }
 
+/// "a line `now=step` or `now=end`", by its number: the now that a test inside a walk has.
+#[derive(Clone, Copy, Debug, PartialEq, Eq)]
+pub enum Reading {
+    Step,
+    End,
+}
+
+impl Reading {
+    /// "any other value is 3"
+    pub fn of(number: usize) -> Result<Self, Refusal> {
+        match number {
+            0 => Ok(Reading::Step),
+            1 => Ok(Reading::End),
+            _ => Err(3),
+        }
+    }
+}
+
 /// What a question is asked of.
 pub struct World<'a> {
     pub theory: &'a Theory,
     pub domain: usize,
+    pub reading: Reading,
     pub log: &'a [u8],
     pub states: Vec<u32>,
 }
 
 impl<'a> World<'a> {
-    pub fn new(theory: &'a Theory, domain: usize, log: &'a [u8]) -> Self {
-        World { theory, domain, log, states: states(theory, log) }
+    pub fn new(theory: &'a Theory, domain: usize, reading: Reading, log: &'a [u8]) -> Self {
+        World { theory, domain, reading, log, states: states(theory, log) }
     }
 
     fn pairs(n: usize, holds: impl Fn(usize, usize) -> bool) -> Pairs {
@@ -51,9 +71,18 @@ impl<'a> World<'a> {
         (0..self.theory.actions).any(|a| self.stepped(a, p))
     }
 
-    /// The pairs that a walk leads over, with now = n.
+    /// The pairs that a walk question leads over, with now = n: "Under `end`, a `?T` .. in a walk question, has the outer now."
     pub fn walk(&self, w: &Walk, n: usize, values: Values) -> Pairs {
-        let of = |w: &Walk| self.walk(w, n, values);
+        self.walk_read(w, n, values, self.reading)
+    }
+
+    /// The same of a job: "A job's own `?T`, outside every `<`, keeps its own position."
+    pub fn job(&self, w: &Walk, n: usize, values: Values) -> Pairs {
+        self.walk_read(w, n, values, Reading::Step)
+    }
+
+    fn walk_read(&self, w: &Walk, n: usize, values: Values, own: Reading) -> Pairs {
+        let of = |w: &Walk| self.walk_read(w, n, values, own);
         match w {
             Walk::Act(a) => Self::pairs(n, |p, q| q == p + 1 && self.stepped(number(a, values), p)),
             Walk::Undo(a) => Self::pairs(n, |p, q| p == q + 1 && self.stepped(number(a, values), q)),
@@ -68,16 +97,19 @@ impl<'a> World<'a> {
                 Self::pairs(n, |p, q| v[p][q] || w[p][q])
             }
             Walk::Star(w) => chains(&of(w), n),
-            Walk::Check(t) => Self::pairs(n, |p, q| p == q && self.test(t, p, values)[p]),
+            Walk::Check(t) => {
+                let now = |p: usize| if own == Reading::Step { p } else { n };
+                Self::pairs(n, |p, q| p == q && self.test(t, now(p), values)[p])
+            }
             Walk::Conv(w) => of(&inward(w)),
             Walk::Pick(v, w) => {
-                let with: Vec<Pairs> = (0..self.domain).map(|k| self.walk(w, n, bind(values, *v, k))).collect();
+                let with: Vec<Pairs> = (0..self.domain).map(|k| self.walk_read(w, n, bind(values, *v, k), own)).collect();
                 Self::pairs(n, |p, q| with.iter().any(|w| w[p][q]))
             }
         }
     }
 
-    /// At which positions a test is true, with now = n.
+    /// At which positions a test is true, with now = n. The walk of a `<` is read as a walk question is: "a `?T` within a `<` walk".
     pub fn test(&self, t: &Test, n: usize, values: Values) -> Vec<bool> {
         let of = |t: &Test| self.test(t, n, values);
         match t {
@@ -149,20 +181,24 @@ pub fn state(fluents: usize, actions: usize, start: u32, table: &[u32], log: &[u
     Ok(states(&theory, log)[position])
 }
 
-pub fn reach(c: Counts, start: u32, table: &[u32], log: &[u8], text: &[u8], then: usize, now: usize) -> Result<Reached, Refusal> {
+#[allow(clippy::too_many_arguments)]
+pub fn reach(c: Counts, start: u32, reading: usize, table: &[u32], log: &[u8], text: &[u8], then: usize, now: usize) -> Result<Reached, Refusal> {
+    let reading = Reading::of(reading)?;
     let theory = check_with(c, start, table, log)?;
     let Rule::Walk(walk) = exactly(text, Kind::Walk, c)? else { unreachable!() };
     times(then, now, log)?;
-    let row = World::new(&theory, c.domain, log).walk(&walk, now, NO_VALUES).swap_remove(then);
+    let row = World::new(&theory, c.domain, reading, log).walk(&walk, now, NO_VALUES).swap_remove(then);
     let set = row.iter().enumerate().fold(0u64, |s, (q, &b)| if b { s | 1 << q } else { s });
     let count = row.iter().filter(|&&b| b).count() as u32;
     let earliest = row.iter().position(|&b| b).unwrap_or(64) as u32;
     Ok(Reached { set, count, earliest })
 }
 
-pub fn verdict(c: Counts, start: u32, table: &[u32], log: &[u8], text: &[u8], then: usize, now: usize) -> Result<bool, Refusal> {
+#[allow(clippy::too_many_arguments)]
+pub fn verdict(c: Counts, start: u32, reading: usize, table: &[u32], log: &[u8], text: &[u8], then: usize, now: usize) -> Result<bool, Refusal> {
+    let reading = Reading::of(reading)?;
     let theory = check_with(c, start, table, log)?;
     let Rule::Test(test) = exactly(text, Kind::Test, c)? else { unreachable!() };
     times(then, now, log)?;
-    Ok(World::new(&theory, c.domain, log).test(&test, now, NO_VALUES)[then])
+    Ok(World::new(&theory, c.domain, reading, log).test(&test, now, NO_VALUES)[then])
 }

@@ -1,5 +1,5 @@
 //! What a scheduler asks at a position: may this action be taken, and which actions may come next.
-use crate::ask::{bind, number, Values, World, NO_VALUES};
+use crate::ask::{bind, number, Reading, Values, World, NO_VALUES};
 use crate::rule::{exactly, Counts, Kind, Rule, Walk};
 use crate::theory::{check, check_with, possible as able, states};
 use crate::Refusal;
@@ -21,7 +21,7 @@ pub fn possible(fluents: usize, actions: usize, start: u32, table: &[u32], log: 
 fn waits(world: &World, walk: &Walk, p: usize, action: usize, values: Values) -> bool {
     let end = world.log.len();
     let of = |w: &Walk, p: usize| waits(world, w, p, action, values);
-    let led = |w: &Walk, then: &dyn Fn(usize) -> bool| world.walk(w, end, values)[p].iter().enumerate().any(|(m, &b)| b && then(m));
+    let led = |w: &Walk, then: &dyn Fn(usize) -> bool| world.job(w, end, values)[p].iter().enumerate().any(|(m, &b)| b && then(m));
     match walk {
         Walk::Act(a) => p == end && number(a, values) == action,
         Walk::Next => p == end,
@@ -34,10 +34,11 @@ fn waits(world: &World, walk: &Walk, p: usize, action: usize, values: Values) ->
 }
 
 /// "those that the job waits for at the log's end and that are possible there, as a 64-bit number"
-pub fn next(c: Counts, start: u32, table: &[u32], log: &[u8], text: &[u8]) -> Result<u64, Refusal> {
+pub fn next(c: Counts, start: u32, reading: usize, table: &[u32], log: &[u8], text: &[u8]) -> Result<u64, Refusal> {
+    let reading = Reading::of(reading)?;
     let theory = check_with(c, start, table, log)?;
     let Rule::Walk(job) = exactly(text, Kind::Job, c)? else { unreachable!() };
-    let world = World::new(&theory, c.domain, log);
+    let world = World::new(&theory, c.domain, reading, log);
     let state = world.states[log.len()];
     let may = |a: &usize| able(&theory.masks[*a], state) && waits(&world, &job, 0, *a, NO_VALUES);
     Ok((0..c.actions).filter(may).fold(0, |all, a| all | 1 << a))

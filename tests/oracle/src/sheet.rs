@@ -1,6 +1,6 @@
 //! Document 01, "The sheet" and "The answering program"; document 02, Q-2: "Sheet=2 has a line `domain=NN` (01 to 16) after `actions`"; Q-6: "Sheet=3 keeps the domain line and
-//! gives each action line ten masks."
-use crate::ask::{World, NO_VALUES};
+//! gives each action line ten masks"; Q-7: "Sheet=4 is sheet=3 with a line `now=step` or `now=end` between log and ask."
+use crate::ask::{Reading, World, NO_VALUES};
 use crate::finish::first;
 use crate::rule::{exactly, Counts, Kind, Rule, Test, Walk};
 use crate::theory::{Masks, Theory};
@@ -72,14 +72,27 @@ fn domain(lines: &mut Lines, version: u8) -> Result<usize, Fault> {
     }
 }
 
+/// The reading's line, which versions 1 to 3 have not: they "mean `step`".
+fn reading(lines: &mut Lines, version: u8) -> Result<Reading, Fault> {
+    if version < 4 {
+        return Ok(Reading::Step);
+    }
+    match lines.next("now=")? {
+        b"step" => Ok(Reading::Step),
+        b"end" => Ok(Reading::End),
+        _ => lines.fault(3),
+    }
+}
+
+fn version(lines: &mut Lines) -> Result<u8, Fault> {
+    match lines.next("sheet=")? {
+        [d @ b'1'..=b'4'] => Ok(d - b'0'),
+        _ => lines.fault(3),
+    }
+}
+
 /// The theory and the domain.
-fn theory(lines: &mut Lines) -> Result<(Theory, usize), Fault> {
-    let version = match lines.next("sheet=")? {
-        b"1" => 1,
-        b"2" => 2,
-        b"3" => 3,
-        _ => return lines.fault(3),
-    };
+fn theory(lines: &mut Lines, version: u8) -> Result<(Theory, usize), Fault> {
     let fluents = match two(lines.next("fluents=")?) {
         Some(n) if n <= 32 => n,
         _ => return lines.fault(3),
@@ -97,14 +110,14 @@ fn theory(lines: &mut Lines) -> Result<(Theory, usize), Fault> {
     for _ in 0..actions {
         let value = lines.next("act=")?;
         let parts: Vec<Option<u32>> = value.split(|&b| b == b',').map(hex).collect();
-        if parts.len() != if version == 3 { 10 } else { 4 } || parts.iter().any(Option::is_none) {
+        if parts.len() != if version >= 3 { 10 } else { 4 } || parts.iter().any(Option::is_none) {
             return lines.fault(3);
         }
         let m: Vec<u32> = parts.into_iter().flatten().collect();
         if m.iter().any(|&m| lacking(fluents, m)) {
             return lines.fault(4);
         }
-        masks.push(if version == 3 { Masks::of_ten(&m) } else { Masks::of_four(&m) });
+        masks.push(if version >= 3 { Masks::of_ten(&m) } else { Masks::of_four(&m) });
     }
     Ok((Theory { fluents, actions, start, masks }, domain))
 }
@@ -114,6 +127,7 @@ pub struct Read {
     pub theory: Theory,
     pub domain: usize,
     pub log: Vec<u8>,
+    pub reading: Reading,
     pub ask: (usize, usize),
     pub run: (usize, usize),
     pub more: usize,
@@ -127,15 +141,17 @@ fn stretch(sheet: &[u8], value: &[u8]) -> (usize, usize) {
     (begin, begin + value.len())
 }
 
-/// Reads a sheet: what it says, or the refusal's number with its line. "Sheet limit 6,729", and "refusal 1 uses the largest limit of
+/// Reads a sheet: what it says, or the refusal's number with its line. "Sheet limit 6,738", and "refusal 1 uses the largest limit of
 /// all versions".
 pub fn read(sheet: &[u8]) -> Result<Read, Fault> {
-    if sheet.len() > 6729 {
+    if sheet.len() > 6738 {
         return Err((1, 0));
     }
     let mut lines = Lines { rest: sheet, line: 0 };
-    let (theory, domain) = theory(&mut lines)?;
+    let version = version(&mut lines)?;
+    let (theory, domain) = theory(&mut lines, version)?;
     let Some(log) = steps(lines.next("log=")?, theory.actions) else { return lines.fault(5) };
+    let reading = reading(&mut lines, version)?;
     let ask = lines.next("ask=")?;
     let test = rule(ask, Kind::Test, &theory, domain, &lines)?;
     let run = lines.next("run=")?;
@@ -148,15 +164,15 @@ pub fn read(sheet: &[u8]) -> Result<Read, Fault> {
         return Err((2, lines.line + 1));
     }
     let (Rule::Test(test), Rule::Walk(job)) = (test, job) else { unreachable!() };
-    Ok(Read { theory, domain, log, ask: stretch(sheet, ask), run: stretch(sheet, run), more, test, job })
+    Ok(Read { theory, domain, log, reading, ask: stretch(sheet, ask), run: stretch(sheet, run), more, test, job })
 }
 
 fn answered(sheet: &[u8]) -> Result<String, Fault> {
-    let Read { theory, domain, log, more, test, job, .. } = read(sheet)?;
-    let world = World::new(&theory, domain, &log);
+    let Read { theory, domain, log, reading, more, test, job, .. } = read(sheet)?;
+    let world = World::new(&theory, domain, reading, &log);
     let verdict = if world.test(&test, log.len(), NO_VALUES)[log.len()] { "yes" } else { "no" };
     let state = world.states[log.len()];
-    let finish = match first(&theory, domain, &log, &job, more) {
+    let finish = match first(&theory, domain, reading, &log, &job, more) {
         Some(w) => w.iter().map(|a| format!("{a:02}")).collect(),
         None => "none".to_string(),
     };
@@ -186,7 +202,7 @@ mod tests {
         let c = Counts { fluents: 2, actions: 3, domain: 0 };
         let t = crate::theory::widened(&[0, 0, 1, 0, 1, 0, 2, 0, 0, 0, 0, 3]);
         let (l, m): (&[u8], &[u8]) = (&[0, 1, 2, 0], &[1, 0]);
-        let set = |log, text: &str, then, now| reach(c, 0, &t, log, text.as_bytes(), then, now).unwrap().set;
+        let set = |log, text: &str, then, now| reach(c, 0, 0, &t, log, text.as_bytes(), then, now).unwrap().set;
         assert_eq!(set(l, "a00", 0, 4), 2);
         assert_eq!(set(l, "a00", 1, 4), 0);
         assert_eq!(set(l, "r00", 4, 4), 8);
@@ -197,7 +213,7 @@ mod tests {
         assert_eq!(set(m, "a01", 0, 2), 0);
         assert_eq!(set(m, "n", 0, 2), 0);
         assert_eq!(set(m, "a00", 1, 2), 4);
-        let ask = |then, now| verdict(c, 0, &t, l, b"<-;a00*n!<;*na011", then, now).unwrap();
+        let ask = |then, now| verdict(c, 0, 0, &t, l, b"<-;a00*n!<;*na011", then, now).unwrap();
         assert_eq!([ask(4, 4), ask(2, 2), ask(1, 1), ask(1, 4)], [true, false, true, false]);
     }
 }

@@ -11,7 +11,7 @@ const M: &[u8] = &[1, 0];
 const L: &[u8] = &[0, 1, 2, 0];
 
 fn reach(log: &[u8], walk: &str, then: usize) -> (u64, u32, u32) {
-    let r = ask::reach(COUNTS, 0, &MASKS, log, walk.as_bytes(), then, log.len()).unwrap();
+    let r = ask::reach(COUNTS, 0, 0, &MASKS, log, walk.as_bytes(), then, log.len()).unwrap();
     (r.set, r.count, r.earliest)
 }
 
@@ -20,11 +20,11 @@ fn set(log: &[u8], walk: &str, then: usize) -> u64 {
 }
 
 fn verdict(log: &[u8], test: &str, then: usize) -> bool {
-    ask::verdict(COUNTS, 0, &MASKS, log, test.as_bytes(), then, log.len()).unwrap()
+    ask::verdict(COUNTS, 0, 0, &MASKS, log, test.as_bytes(), then, log.len()).unwrap()
 }
 
 fn finished(log: &[u8], job: &str, more: usize) -> Result<Vec<u8>, u8> {
-    finish(COUNTS, 0, &MASKS, log, job.as_bytes(), more, 6)
+    finish(COUNTS, 0, 0, &MASKS, log, job.as_bytes(), more, 6)
 }
 
 #[test]

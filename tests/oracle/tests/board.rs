@@ -10,7 +10,7 @@ fn counts(domain: usize) -> Counts {
 }
 
 fn asked(text: &[u8], then: usize, now: usize, room: usize) -> Result<Vec<u8>, u8> {
-    board(counts(0), 0, &MASKS, L, text, then, now, room)
+    board(counts(0), 0, 0, &MASKS, L, text, then, now, room)
 }
 
 fn at_the_end(text: &str) -> Result<Vec<u8>, u8> {
@@ -32,7 +32,7 @@ fn a_byte_each() {
 
 #[test]
 fn variables() {
-    let asked = |domain, text: &str| board(counts(domain), 0, &MASKS, L, text.as_bytes(), 4, 4, 64);
+    let asked = |domain, text: &str| board(counts(domain), 0, 0, &MASKS, L, text.as_bytes(), 4, 4, 64);
     assert_eq!(asked(2, "g00v\nevg00v\n!ev!g00v\ng01v\n"), Ok(vec![29, 1, 0, 23]));
     assert_eq!((asked(0, "g00v\nevg00v\n"), asked(16, "1\n"), asked(17, "1\n"), asked(17, "1")), (Ok(vec![22, 22]), Ok(vec![1]), Err(3), Err(2)));
 }
@@ -46,7 +46,7 @@ fn refusals_of_the_whole_call() {
     assert_eq!((asked(lines(65).as_bytes(), 4, 3, 0), asked(lines(64).as_bytes(), 4, 3, 0)), (Err(3), Err(10)));
     assert_eq!((asked(b"\n1\n", 4, 4, 1), asked(b"\n1\n", 4, 4, 2)), (Err(12), Ok(vec![22, 1])));
     assert_eq!((asked(b"1\n", 5, 4, 0), asked(b"1\n", 0, 5, 0), asked(b"", 5, 4, 0)), (Err(10), Err(10), Err(10)));
-    assert_eq!(board(counts(0), 0, &MASKS[..29], &[3], b"1\n", 5, 4, 0), Err(3));
-    assert_eq!(board(Counts { fluents: 1, ..counts(0) }, 0, &MASKS, &[3], b"1\n", 5, 4, 0), Err(4));
-    assert_eq!(board(counts(0), 0, &MASKS, &[3], b"1\n", 5, 4, 0), Err(5));
+    assert_eq!(board(counts(0), 0, 0, &MASKS[..29], &[3], b"1\n", 5, 4, 0), Err(3));
+    assert_eq!(board(Counts { fluents: 1, ..counts(0) }, 0, 0, &MASKS, &[3], b"1\n", 5, 4, 0), Err(4));
+    assert_eq!(board(counts(0), 0, 0, &MASKS, &[3], b"1\n", 5, 4, 0), Err(5));
 }

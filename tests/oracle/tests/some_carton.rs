@@ -18,15 +18,15 @@ fn counts(domain: usize) -> Counts {
 
 /// The set that a walk leads to, or the refusal.
 fn set(domain: usize, walk: &str, then: usize) -> Result<u64, u8> {
-    ask::reach(counts(domain), 0, &MASKS, L, walk.as_bytes(), then, L.len()).map(|r| r.set)
+    ask::reach(counts(domain), 0, 0, &MASKS, L, walk.as_bytes(), then, L.len()).map(|r| r.set)
 }
 
 fn verdict(domain: usize, test: &str, at: usize) -> Result<bool, u8> {
-    ask::verdict(counts(domain), 0, &MASKS, L, test.as_bytes(), at, at)
+    ask::verdict(counts(domain), 0, 0, &MASKS, L, test.as_bytes(), at, at)
 }
 
 fn finished(log: &[u8], domain: usize, job: &str, more: usize) -> Result<Vec<u8>, u8> {
-    finish::finish(counts(domain), 0, &MASKS, log, job.as_bytes(), more, 6)
+    finish::finish(counts(domain), 0, 0, &MASKS, log, job.as_bytes(), more, 6)
 }
 
 fn form(domain: usize, walk: &str) -> Result<String, u8> {
@@ -59,10 +59,10 @@ fn refusals_of_a_rule() {
     }
     // 13 comes after 9 and before 10, 11 and 12.
     assert_eq!(finished(E, 2, ";ub00v", 1), Err(9));
-    let late = |text: &[u8], now| ask::reach(counts(2), 0, &MASKS, L, text, 0, now).map(|r| r.set);
+    let late = |text: &[u8], now| ask::reach(counts(2), 0, 0, &MASKS, L, text, 0, now).map(|r| r.set);
     assert_eq!([late(b"b00v", 5), late(b"a00", 5)], [Err(13), Err(10)]);
-    assert_eq!(finish::finish(counts(2), 0, &MASKS, E, b"b00v", 1, 0), Err(13));
-    assert_eq!(finish::finish(counts(2), 0, &MASKS, E, b"a00", 1, 0), Err(12));
+    assert_eq!(finish::finish(counts(2), 0, 0, &MASKS, E, b"b00v", 1, 0), Err(13));
+    assert_eq!(finish::finish(counts(2), 0, 0, &MASKS, E, b"a00", 1, 0), Err(12));
     assert_eq!(normal::normal(b"b00v", Kind::Walk, counts(2), 0), Err(13));
     assert_eq!(read(b"b00vrest", Kind::Walk, counts(2)), Err(13));
     assert_eq!(read(b"pvb00vrest", Kind::Walk, counts(2)), Ok(6));
@@ -83,7 +83,7 @@ fn jobs() {
     assert_eq!(finished(E, 3, "pv?<s00v1", 1), Err(11));
     assert_eq!(finished(E, 3, "pvb00v", 1), Ok(vec![0]));
     assert_eq!(finished(E, 2, "pvb01v", 6), Ok(vec![2]));
-    let next = |domain, log: &[u8], job: &str| next::next(counts(domain), 0, &MASKS, log, job.as_bytes());
+    let next = |domain, log: &[u8], job: &str| next::next(counts(domain), 0, 0, &MASKS, log, job.as_bytes());
     assert_eq!([next(2, E, "pvb00v"), next(2, &[0], "*pvb00v"), next(2, E, "pvb01v")], [Ok(1), Ok(3), Ok(4)]);
     assert_eq!(next(2, &[0], "pv;b00vb01v"), Ok(2));
     assert_eq!(next(17, E, "a00"), Err(3));
@@ -158,10 +158,10 @@ fn a_binder_is_the_choice_of_its_values() {
                     let now = log.len();
                     for then in 0..=now {
                         if kind == Kind::Walk {
-                            let of = |c, text: &[u8]| ask::reach(c, 0, &MASKS, &log, text, then, now).unwrap().set;
+                            let of = |c, text: &[u8]| ask::reach(c, 0, 0, &MASKS, &log, text, then, now).unwrap().set;
                             assert_eq!(of(counts(domain), text.as_bytes()), of(counts(0), &out), "{text} {domain} {log:?} {then}");
                         } else {
-                            let of = |c, text: &[u8]| ask::verdict(c, 0, &MASKS, &log, text, then, now).unwrap();
+                            let of = |c, text: &[u8]| ask::verdict(c, 0, 0, &MASKS, &log, text, then, now).unwrap();
                             assert_eq!(of(counts(domain), text.as_bytes()), of(counts(0), &out), "{text} {domain} {log:?} {then}");
                         }
                     }

@@ -30,7 +30,7 @@ fn every_short_log() {
             assert_eq!(grown, afresh(2, 3, 0, &MASKS, &log).unwrap(), "{log:?}");
             for (a, test) in ["<-;a00*n1", "<-;a01*n1", "<-;a02*n1"].into_iter().enumerate() {
                 let end = log.len();
-                assert_eq!(happened(3, &grown, a), verdict(COUNTS, 0, &MASKS, &log, test.as_bytes(), end, end), "{log:?} {test}");
+                assert_eq!(happened(3, &grown, a), verdict(COUNTS, 0, 0, &MASKS, &log, test.as_bytes(), end, end), "{log:?} {test}");
             }
         }
     }

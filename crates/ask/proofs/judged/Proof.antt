@@ -13,7 +13,7 @@ true-at-requires c κs = asked-sound (c .before .before .before .before .before 
 returns : tie.Need-returns
 returns c =
     let transposed = c .before .before .before in
-    c .true-at .ensures .each _ refl (transposed .before .before .before .before .before .pre) (transposed .transpose .ensures)
+    c .true-at .ensures .each _ refl refl (transposed .before .before .before .before .before .pre) (transposed .transpose .ensures)
 
 pub judged-spec : {M : Type 1} → statement M
 judged-spec = tie.close (tie.spec transpose-requires true-at-requires returns)

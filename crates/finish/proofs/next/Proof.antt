@@ -4,7 +4,7 @@ use mathlib.Core.Logic.{inl, inr}
 use borrow.Author.Needs.{needs}
 use denote.Ref.{now}
 use Rattle.grammar.proofs.Widths.{ends-told}
-use Rattle.theory.specs.Subject.{Subject, subjectOf}
+use Rattle.theory.specs.Subject.{Subject, subjectOf, worldOf}
 use Rattle.theory.specs.Check.{Settled}
 use Rattle.theory.specs.declared.Check.{Check}
 use Rattle.theory.specs.declared.Check.the-variants.{Sound}
@@ -70,7 +70,7 @@ returns-2 c =
     inr (record {
       none = refl;
       accepted = passed t;
-      right = record { walk = job t .walk; spells = job t .spells; told = begin-come _ _ (job t .walk) _ (all-allowed _ (job t .walk) (job t .short) (job-is (job t) .there)) (c .coming .ensures .each (job t .walk) (job-is (job t))) };
+      right = record { walk = job t .walk; spells = job t .spells; told = begin-come _ (worldOf (subject (start (t .before .before)))) (job t .walk) _ (all-allowed _ (job t .walk) (job t .short) (job-is (job t) .there)) (c .coming .ensures .each (job t .walk) (job-is (job t))) };
     })
 
 pub next-spec : {M : Type 1} → statement M

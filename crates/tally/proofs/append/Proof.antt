@@ -106,7 +106,7 @@ module _ {M : Type 1} (𝓤 : URA M) (H : Heap 𝓤) (A : Atoms 𝓤) (W : Given
   asked = qed W ((‵ (flft κ0 q0) ⊛ ‵ ftrue) ∷ ‵ Passed ∷ []) ∵ join ! $ frame ! $ done !
 
   abbrev Says : Left → Type 0
-  Says r = Appended (settingOf fluents actions 0 start) (masks .now) h action (r .refusal) (r .tally)
+  Says r = Appended (settingOf fluents actions 0 start 0) (masks .now) h action (r .refusal) (r .tally)
 
   said : (r : Left) → ent 𝓤 (ensured 𝓤 H A g.ended (g.clauses 𝓤 H A at-mem run) (κ0, tt) y tt r) (fact 𝓤 (Says r))
   said r = exE 𝓤 _ (λ ws. snd∗ 𝓤 (sem 𝓤 H A (lasts g.ended (κ0, tt) y ws)) (fact 𝓤 (Says r)))

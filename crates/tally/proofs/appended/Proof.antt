@@ -33,7 +33,7 @@ cast-steps c = search needs
 
 -- the rows of the theory, and of record and action, at the arguments
 abbrev setting : tie.Start → Setting
-setting c = settingOf (c .args .fluents) (c .args .actions) 0 (c .args .start)
+setting c = settingOf (c .args .fluents) (c .args .actions) 0 (c .args .start) 0
 
 abbrev first : tie.Start → List {1} Row
 first c = theoryRows (setting c) (now (c .args .masks))

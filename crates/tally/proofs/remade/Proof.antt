@@ -26,7 +26,7 @@ enum-told c = search needs
 
 -- what is asked of, and its rows, at the arguments
 abbrev subject : tie.Start → Subject
-subject c = subjectOf (settingOf (c .args .fluents) (c .args .actions) 0 (c .args .start)) (now (c .args .masks)) (now (c .args .log))
+subject c = subjectOf (settingOf (c .args .fluents) (c .args .actions) 0 (c .args .start) 0) (now (c .args .masks)) (now (c .args .log))
 
 abbrev rows : tie.Start → List {1} Row
 rows c = worldRows (subject c)

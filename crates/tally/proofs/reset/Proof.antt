@@ -109,7 +109,7 @@ module _ {M : Type 1} (𝓤 : URA M) (H : Heap 𝓤) (A : Atoms 𝓤) (W : Given
   asked = qed W ((‵ (flft κ0 q0) ⊛ ‵ (flft κ1 q1) ⊛ ‵ ftrue) ∷ ‵ Passed ∷ []) ∵ join ! $ frame ! $ done !
 
   abbrev Says : Left → Type 0
-  Says r = Remade (subjectOf (settingOf fluents actions 0 start) (masks .now) (log .now)) h (r .refusal) (r .tally)
+  Says r = Remade (subjectOf (settingOf fluents actions 0 start 0) (masks .now) (log .now)) h (r .refusal) (r .tally)
 
   said : (r : Left) → ent 𝓤 (ensured 𝓤 H A g.ended (g.clauses 𝓤 H A at-mem run) (κ0, (κ1, tt)) y tt r) (fact 𝓤 (Says r))
   said r = exE 𝓤 _ (λ ws. snd∗ 𝓤 (sem 𝓤 H A (lasts g.ended (κ0, (κ1, tt)) y ws)) (fact 𝓤 (Says r)))

@@ -27,7 +27,7 @@ same-length c = search needs
 
 -- what the contract says of the output, a number and a count, at the arguments, and what the call ensures of its answer
 abbrev Told : tie.Start → ℕ → ℕ → List ℕ → Type 0
-Told c = BoardAnswered (asked (c .args .fluents) (c .args .actions) (c .args .domain) (c .args .start) (now (c .args .masks)) (now (c .args .log))) (now (c .args .tests)) (c .args .then) (c .args .now) (now (c .args .out))
+Told c = BoardAnswered (asked (c .args .fluents) (c .args .actions) (c .args .domain) (c .args .start) (c .args .reading) (now (c .args .masks)) (now (c .args .log))) (now (c .args .tests)) (c .args .then) (c .args .now) (now (c .args .out))
 
 abbrev Answers : tie.Start → List ℕ → BoardAnswer → Type 0
 Answers c after a = Told c (numberGiven a) (countGiven a) after

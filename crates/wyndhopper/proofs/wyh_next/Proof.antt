@@ -23,7 +23,7 @@ enum-known-found c = search needs
 
 -- what the contract says of a number and the actions, at the arguments, and what the call ensures of its answer
 abbrev Told : tie.Start → ℕ → ℕ → Type 0
-Told c = NextAnswered (asked (c .args .fluents) (c .args .actions) (c .args .domain) (c .args .start) (now (c .args .masks)) (now (c .args .log))) (now (c .args .job))
+Told c = NextAnswered (asked (c .args .fluents) (c .args .actions) (c .args .domain) (c .args .start) (c .args .reading) (now (c .args .masks)) (now (c .args .log))) (now (c .args .job))
 
 abbrev Answers : tie.Start → NextAnswer → Type 0
 Answers c a = Told c (numberGiven a) (actionsGiven a)

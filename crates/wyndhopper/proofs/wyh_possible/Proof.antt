@@ -28,7 +28,7 @@ enum-told-2 c = search needs
 
 -- what the contract says of a number and a verdict, at the arguments, and what the call ensures of its answer
 abbrev Told : tie.Start → ℕ → Option Bool → Type 0
-Told c = PossibleAnswered (asked (c .args .fluents) (c .args .actions) 0 (c .args .start) (now (c .args .masks)) (now (c .args .log))) (c .args .action) (c .args .position)
+Told c = PossibleAnswered (asked (c .args .fluents) (c .args .actions) 0 (c .args .start) 0 (now (c .args .masks)) (now (c .args .log))) (c .args .action) (c .args .position)
 
 abbrev Answers : tie.Start → PossibleAnswer → Type 0
 Answers c a = Told c (numberGiven a) (verdictGiven a)

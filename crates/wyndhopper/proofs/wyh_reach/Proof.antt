@@ -25,7 +25,7 @@ enum-known-found c = search needs
 
 -- what the contract says of a number and the slots, at the arguments, and what the call ensures of its answer
 abbrev Told : tie.Start → ℕ → ℕ → ℕ → ℕ → Type 0
-Told c = ReachAnswered (asked (c .args .fluents) (c .args .actions) (c .args .domain) (c .args .start) (now (c .args .masks)) (now (c .args .log))) (now (c .args .walk)) (c .args .then) (c .args .now)
+Told c = ReachAnswered (asked (c .args .fluents) (c .args .actions) (c .args .domain) (c .args .start) (c .args .reading) (now (c .args .masks)) (now (c .args .log))) (now (c .args .walk)) (c .args .then) (c .args .now)
 
 abbrev Answers : tie.Start → ReachAnswer → Type 0
 Answers c a = Told c (numberGiven a) (setGiven a) (countGiven a) (earliestGiven a)

@@ -23,7 +23,7 @@ enum-known-s c = search needs
 
 -- what the contract says of a number and a state, at the arguments, and what the call ensures of its answer
 abbrev Told : tie.Start → ℕ → ℕ → Type 0
-Told c = StateAnswered (asked (c .args .fluents) (c .args .actions) 0 (c .args .start) (now (c .args .masks)) (now (c .args .log))) (c .args .position)
+Told c = StateAnswered (asked (c .args .fluents) (c .args .actions) 0 (c .args .start) 0 (now (c .args .masks)) (now (c .args .log))) (c .args .position)
 
 abbrev Answers : tie.Start → StateAnswer → Type 0
 Answers c a = Told c (numberGiven a) (stateGiven a)

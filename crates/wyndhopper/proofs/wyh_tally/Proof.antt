@@ -78,7 +78,7 @@ module _ {M : Type 1} (𝓤 : URA M) (H : Heap 𝓤) (A : Atoms 𝓤) (W : Given
   Ends = Unit {0} × (Unit {0} × (Unit {0} × (Unit {0} × (Unit {0} × (Tally × Unit {0})))))
 
   abbrev Says : ℕ → Ends → Type 0
-  Says r zs = Remade (subject fluents actions 0 start (masks .now) (log .now)) (tally .now) r (zs .1 .1 .1 .1 .1 .0)
+  Says r zs = Remade (subject fluents actions 0 start 0 (masks .now) (log .now)) (tally .now) r (zs .1 .1 .1 .1 .1 .0)
 
   exits : (r : ℕ) (v : Val) (zs : Ends) → Says r zs → ent 𝓤 (⋆ 𝓤 H A (‵ (u8 .own r (v ∷ [])) ∷ (‵ (flft κ0 q0) ⊛ ‵ (flft κ1 q1) ⊛ ‵ (flft κ2 q2) ⊛ ‵ ftrue) ∷ ‵ (lasts g.ended (κ0, (κ1, (κ2, tt))) x zs) ∷ [])) (Post v)
   exits r v zs e =

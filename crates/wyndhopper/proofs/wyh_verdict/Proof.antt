@@ -28,7 +28,7 @@ enum-told-2 c = search needs
 
 -- what the contract says of a number and a verdict, at the arguments, and what the call ensures of its answer
 abbrev Told : tie.Start → ℕ → Option Bool → Type 0
-Told c = VerdictAnswered (asked (c .args .fluents) (c .args .actions) (c .args .domain) (c .args .start) (now (c .args .masks)) (now (c .args .log))) (now (c .args .test)) (c .args .then) (c .args .now)
+Told c = VerdictAnswered (asked (c .args .fluents) (c .args .actions) (c .args .domain) (c .args .start) (c .args .reading) (now (c .args .masks)) (now (c .args .log))) (now (c .args .test)) (c .args .then) (c .args .now)
 
 abbrev Answers : tie.Start → VerdictAnswer → Type 0
 Answers c a = Told c (numberGiven a) (verdictGiven a)

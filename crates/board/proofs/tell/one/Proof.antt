@@ -84,7 +84,7 @@ abbrev asked : tie.After-true-at → tie.After-find-lf
 asked c = found (c .before .before .before)
 
 abbrev Told : tie.After-true-at → Bool → Type 0
-Told c answer = let a = start (asked c) .args in TestTold (test (asked c)) (a .s .counts .domain) (now (a .rows)) (a .then) (a .now) answer
+Told c answer = let a = start (asked c) .args in TestTold (test (asked c)) (a .s .counts .domain) (a .s .reading) (now (a .rows)) (a .then) (a .now) answer
 
 returns-2 : tie.Need-returns-2
 returns-2 c =

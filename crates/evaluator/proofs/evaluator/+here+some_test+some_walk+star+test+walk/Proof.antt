@@ -1,11 +1,11 @@
 -- The proof of the evaluator's cycle of calls {here, some_test, some_walk, star, test, walk}: a line for each need, by the laws of Calls (what stands behind a
 -- sign), Found (what the parts' answers make, and what is kept), Rounds and Chosen (what the loops hold). The measure is the text that is left, twice; `star`,
 -- `here` and the binders are called at the walk's or the test's own place, so they have one less.
-use Prim.Native.Nat.{ℕ, _-_, _*_, _≤_, _<_}
+use Prim.Native.Nat.{ℕ, _+_, _-_, _*_, _≤_, _<_}
 use native.Mathlib.Omega.{arith}
 use mathlib.Core.Path.{_≡_, refl, _∙_}
-use mathlib.Core.Logic.{_↔_, inl, inr}
-use mathlib.Core.Bool.{true, not}
+use mathlib.Core.Logic.{inl, inr}
+use mathlib.Core.Bool.{not}
 use lib.ListN.{length}
 use borrow.Author.Needs.{needs}
 use borrow.Author.Tests.{not-true, not-false}
@@ -32,6 +32,8 @@ use Rattle.evaluator.proofs.evaluator.+here+some_test+some_walk+star+te
 use Rattle.evaluator.proofs.evaluator.last_star.Reads as last-star-reads
 use Rattle.evaluator.proofs.evaluator.second.Reads as second-reads
 use Rattle.evaluator.proofs.evaluator.turned.Reads as turned-reads
+use Rattle.evaluator.proofs.readings.next_turn.Reads as next-turn-reads
+use Rattle.evaluator.proofs.readings.renew.Reads as renew-reads
 use Rattle.evaluator.proofs.slots.clear.Reads as clear-reads
 use Rattle.evaluator.proofs.slots.forget.Reads as forget-reads
 use Rattle.evaluator.proofs.slots.keep.Reads as keep-reads
@@ -39,11 +41,10 @@ use Rattle.evaluator.proofs.slots.kept.Reads as kept-reads
 use Rattle.steps.proofs.step.leaf.Reads as leaf-reads
 use Rattle.steps.proofs.step.row.Reads as row-reads
 use Rattle.steps.proofs.step.sum_row.Reads as sum-row-reads
+use Rattle.evaluator.proofs.values.inside.Reads as inside-reads
 use Rattle.steps.proofs.letters.place_of.Reads as place-of-reads
 use Rattle.evaluator.proofs.values.rebound.Reads as rebound-reads
 use Rattle.evaluator.proofs.values.turns.Reads as turns-reads
-use Rattle.positions.proofs.PositionSet.at.Reads as at-reads
-use Rattle.positions.proofs.PositionSet.earliest.Reads as earliest-reads
 use Rattle.positions.proofs.PositionSet.is_empty.Reads as is-empty-reads
 use Rattle.positions.proofs.PositionSet.join.Reads as join-reads
 use Rattle.positions.proofs.PositionSet.meet.Reads as meet-reads
@@ -55,15 +56,16 @@ use Rattle.laws.proofs.Truth.{off-on}
 use Rattle.meaning.specs.Limits.{places}
 use Rattle.meaning.specs.Reach.{countOf}
 use Rattle.positions.specs.Positions.{holds, Empty}
-use Rattle.positions.proofs.Held.{held-place, nothing-held}
+use Rattle.positions.proofs.Held.{nothing-held}
 use Rattle.grammar.proofs.Spread.{within}
-use Rattle.runs.proofs.Calls.{end-inside, left-over, seq-second, seq-either-here, alt-first, alt-second, star-part, check-part, conv-part, pick-part, pick-binder, leaf-part}
+use Rattle.runs.specs.Found.{TestHere}
+use Rattle.runs.proofs.Calls.{end-inside, end-after, left-over, seq-second, seq-either-here, alt-first, alt-second, star-part, check-part, conv-part, pick-part, pick-binder, leaf-part}
 use Rattle.runs.proofs.Calls.{fluent-number, sum-fluent-here, neg-part, both-first, both-second, diamond-first, diamond-second, exists-part, exists-binder, last-sign}
 use Rattle.runs.proofs.Leaf.{fluent-found, sum-fluent-found}
 use Rattle.runs.proofs.Found.{seq-either, alt-kept, conv-kept, leaf-kept, run-kept, run-here, leaf-tested, always-found, neg-kept, both-kept, diamond-kept}
 use Rattle.runs.proofs.Rounds.{Rounds, rounds-start, rounds-more, rounds-done, Sifting, sifting-start, sifting-more, sifting-done}
 use Rattle.runs.proofs.Chosen.{Choosing, choosing-start, choosing-more, choosing-done, nowhere-walked, Sorting, sorting-start, sorting-more, sorting-done}
-use Rattle.runs.proofs.Loops.{round-falls, earliest-there, one-there, left-falls}
+use Rattle.runs.proofs.Loops.{round-falls, left-falls}
 
 abbrev μ-here : Measures 5 here-kinds.ps ℕ
 μ-here κs a = 2 * (length (a .0 .now) - a .1 .1 .0) - 1
@@ -123,18 +125,27 @@ walk-below t = and 5 walk-kinds.ps (falls 5 walk-kinds.ps _<_ μ-walk t) walk.Pr
 -- ---- here
 -- what each call asks and tells
 abbrev here-calls : ℕ → here-lts.Claims
-here-calls t = (kept-reads.Asked, kept-reads.Learnt, join-reads.Asked, join-reads.Learnt, without-reads.Asked, without-reads.Learnt, is-empty-reads.Asked, is-empty-reads.Learnt, earliest-reads.Asked, earliest-reads.Learnt, at-reads.Asked, at-reads.Learnt, test-below t, test.Post, keep-reads.Asked, keep-reads.Learnt, meet-reads.Asked, meet-reads.Learnt)
+here-calls t = (second-reads.Asked, second-reads.Learnt, kept-reads.Asked, kept-reads.Learnt, join-reads.Asked, join-reads.Learnt, without-reads.Asked, without-reads.Learnt, is-empty-reads.Asked, is-empty-reads.Learnt, next-turn-reads.Asked, next-turn-reads.Learnt, inside-reads.Asked, inside-reads.Learnt, renew-reads.Asked, renew-reads.Learnt, test-below t, test.Post, keep-reads.Asked, keep-reads.Learnt, meet-reads.Asked, meet-reads.Learnt)
 
 -- of the positions asked in all, it holds the ones gone over where the test is true
 abbrev here-Inv-loop : here-lts.InvT-loop
-here-Inv-loop text ends at among now rows bound slots₀ part held₀ asked left₀ slots held left =
+here-Inv-loop text ends at among now rows bound slots₀ part end held₀ asked left₀ slots held left =
     (length slots ≡ length slots₀) × Sifting text at rows bound now slots₀ slots (holds among) (holds asked) (holds left) (holds held)
 
 abbrev here-μ-loop : here-lts.MeasureT-loop
-here-μ-loop text ends at among now rows bound slots₀ part held₀ asked left₀ slots held left = countOf (holds left)
+here-μ-loop text ends at among now rows bound slots₀ part end held₀ asked left₀ slots held left = countOf (holds left)
+
+-- the test of the `?`
+here-part : (t : ℕ) (s : here-lts.Start (here-calls t) (here-at t) here.Post here-Inv-loop here-μ-loop) → TestHere (s .args .text .now) (s .args .ends .now) (s .args .at + 1)
+here-part t s = check-part (s .pre .1 .0) (s .pre .1 .1)
 
 here-add-part : (t : ℕ) → here-lts.Need-add-part (here-calls t) (here-at t) here.Post here-Inv-loop here-μ-loop
-here-add-part t c = omega (arith, within (c .before .before .pre .1 .0 .stands), c .before .before .good .0 .0)
+here-add-part t c =
+    omega (arith, within (c .before .before .pre .1 .0 .stands), c .before .before .good .0 .0)
+
+here-second-requires : (t : ℕ) → here-lts.Need-second-requires (here-calls t) (here-at t) here.Post here-Inv-loop here-μ-loop
+here-second-requires t c κs =
+    let p = here-part t (c .before .before .before) in end-inside (p .marked) (p .stands) (omega arith)
 
 here-kept-requires : (t : ℕ) → here-lts.Need-kept-requires (here-calls t) (here-at t) here.Post here-Inv-loop here-μ-loop
 here-kept-requires t c κs = search needs
@@ -150,21 +161,30 @@ here-without-requires t c κs = search needs
 
 here-loop-holds : (t : ℕ) → here-lts.Need-loop-holds (here-calls t) (here-at t) here.Post here-Inv-loop here-μ-loop
 here-loop-holds t c =
-    (refl, sifting-start (c .before .before .before .before .before .before .before .before .pre .1 .1) (c .before .before .before .before .kept .ensures) (c .before .before .kept2 .ensures) (c .before .join .ensures) (c .without .ensures))
+    (refl, sifting-start (c .before .before .before .before .before .before .before .before .before .before .pre .1 .1) (c .before .before .before .before .kept .ensures) (c .before .before .kept2 .ensures) (c .before .join .ensures) (c .without .ensures))
 
 here-is-empty-requires : (t : ℕ) → here-lts.Need-is-empty-requires (here-calls t) (here-at t) here.Post here-Inv-loop here-μ-loop
 here-is-empty-requires t c κs = search needs
 
-here-earliest-requires : (t : ℕ) → here-lts.Need-earliest-requires (here-calls t) (here-at t) here.Post here-Inv-loop here-μ-loop
-here-earliest-requires t c κs = search needs
+here-next-turn-requires : (t : ℕ) → here-lts.Need-next-turn-requires (here-calls t) (here-at t) here.Post here-Inv-loop here-μ-loop
+here-next-turn-requires t c κs =
+    λ none. off-on (not-true _ (c .if1 .taken)) (c .before .is-empty .ensures .1 none)
 
-here-at-requires : (t : ℕ) → here-lts.Need-at-requires (here-calls t) (here-at t) here.Post here-Inv-loop here-μ-loop
-here-at-requires t c κs = search needs
+here-inside-requires : (t : ℕ) → here-lts.Need-inside-requires (here-calls t) (here-at t) here.Post here-Inv-loop here-μ-loop
+here-inside-requires t c κs = search needs
+
+here-renew-requires : (t : ℕ) → here-lts.Need-renew-requires (here-calls t) (here-at t) here.Post here-Inv-loop here-μ-loop
+here-renew-requires t c κs =
+    let p = here-part t (c .before .before .before .before .before .before .before .before .before .before .before .before .before .before .before .before .before) in end-after (p .marked) (p .stands) (c .before .before .before .before .before .before .before .before .before .before .before .before .before .second .result) (c .before .before .before .before .before .before .before .before .before .before .before .before .before .second .ensures)
 
 here-test-requires : (t : ℕ) → here-lts.Need-test-requires (here-calls t) (here-at t) here.Post here-Inv-loop here-μ-loop
 here-test-requires t c κs =
-    let s = c .before .before .before .before .before .before .before .before .before .before .before .before .before .before in
-    (omega (arith, s .pre .0, within (s .pre .1 .0 .stands)), check-part (s .pre .1 .0) (s .pre .1 .1))
+    let s = c .before .before .before .before .before .before .before .before .before .before .before .before .before .before .before .before .before .before .before .before .before .before in
+    (omega (arith, s .pre .0, within (s .pre .1 .0 .stands)), here-part t s)
+
+here-renew-requires-2 : (t : ℕ) → here-lts.Need-renew-requires-2 (here-calls t) (here-at t) here.Post here-Inv-loop here-μ-loop
+here-renew-requires-2 t c κs =
+    let p = here-part t (c .before .before .before .before .before .before .before .before .before .before .before .before .before .before .before .before .before .before .before .before .before .before .before .before .before .before) in end-after (p .marked) (p .stands) (c .before .before .before .before .before .before .before .before .before .before .before .before .before .before .before .before .before .before .before .before .before .before .second .result) (c .before .before .before .before .before .before .before .before .before .before .before .before .before .before .before .before .before .before .before .before .before .before .second .ensures)
 
 here-join-requires-2 : (t : ℕ) → here-lts.Need-join-requires-2 (here-calls t) (here-at t) here.Post here-Inv-loop here-μ-loop
 here-join-requires-2 t c κs = search needs
@@ -172,24 +192,17 @@ here-join-requires-2 t c κs = search needs
 here-without-requires-2 : (t : ℕ) → here-lts.Need-without-requires-2 (here-calls t) (here-at t) here.Post here-Inv-loop here-μ-loop
 here-without-requires-2 t c κs = search needs
 
--- a round's earliest position is one of those left, and its own set holds it alone
-here-there : (t : ℕ) (c : here-lts.After-without2 (here-calls t) (here-at t) here.Post here-Inv-loop here-μ-loop) → holds (c .before .before .before .before .before .before .before .before .before .before .loop .left) (c .before .before .before .before .before .before .before .earliest .result) ≡ true
-here-there t c =
-    earliest-there (c .before .before .before .before .before .before .before .before .before .before .loop .left) (c .before .before .before .before .before .before .before .earliest .result) (λ none. off-on (not-true _ (c .before .before .before .before .before .before .before .before .if1 .taken)) (c .before .before .before .before .before .before .before .before .before .is-empty .ensures .1 none)) (c .before .before .before .before .before .before .before .earliest .ensures)
-
-here-alone : (t : ℕ) (c : here-lts.After-without2 (here-calls t) (here-at t) here.Post here-Inv-loop here-μ-loop)
-    → (q : ℕ) → (holds (c .before .before .before .before .before .before .at .result) q ≡ true) ↔ (q ≡ c .before .before .before .before .before .before .before .earliest .result)
-here-alone t c = one-there (c .before .before .before .before .before .before .before .earliest .result) (c .before .before .before .before .before .before .at .result) (held-place (c .before .before .before .before .before .before .before .before .before .before .loop .left) (here-there t c)) (c .before .before .before .before .before .before .at .ensures)
-
 here-loop-less : (t : ℕ) → here-lts.Need-loop-less (here-calls t) (here-at t) here.Post here-Inv-loop here-μ-loop
 here-loop-less t c =
-    let left = c .before .before .before .before .before .before .before .before .before .before .loop .left in
-    let own = c .before .before .before .before .before .before .before .earliest .result in
-    left-falls left (c .before .before .before .before .before .before .at .result) (c .without2 .result) own (here-there t c) (here-alone t c own .1 refl) (c .without2 .ensures)
+    let turn = c .before .before .before .before .before .before .before .before .before .before .before .before .before .before .before .before .before .next-turn .ensures in
+    left-falls (c .before .before .before .before .before .before .before .before .before .before .before .before .before .before .before .before .before .before .before .before .loop .left) (c .before .before .before .before .before .before .before .before .before .before .before .before .before .before .before .before .before .next-turn .result .these) (c .without2 .result) (turn .some .0) (turn .within (turn .some .0) (turn .some .1)) (turn .some .1) (c .without2 .ensures)
 
 here-loop-again : (t : ℕ) → here-lts.Need-loop-again (here-calls t) (here-at t) here.Post here-Inv-loop here-μ-loop
 here-loop-again t c =
-    (c .before .before .before .before .test .kept .1 .1 .1 .1 .1 .1 .1 .0 ∙ c .before .before .before .before .before .before .before .before .before .before .loop .inv .0, sifting-more (c .before .before .before .before .before .before .before .earliest .result) (here-there t c) (here-alone t c) (c .before .before .before .before .test .ensures) (c .before .join2 .ensures) (c .without2 .ensures) (c .before .before .before .before .before .before .before .before .before .before .loop .inv .1))
+    let p = here-part t (c .before .before .before .before .before .before .before .before .before .before .before .before .before .before .before .before .before .before .before .before .before .before .before .before .before .before .before .before .before .before .before) in (
+      c .before .before .before .before .renew2 .kept .0 ∙ c .before .before .before .before .before .before .before .before .test .kept .1 .1 .1 .1 .1 .1 .1 .0 ∙ c .before .before .before .before .before .before .before .before .before .before .before .before .before .renew .kept .0 ∙ c .before .before .before .before .before .before .before .before .before .before .before .before .before .before .before .before .before .before .before .before .loop .inv .0,
+      sifting-more (p .marked) (c .before .before .before .before .before .before .before .before .before .before .before .before .before .before .before .before .before .before .before .before .before .before .before .before .before .before .before .second .ensures) (c .before .before .before .before .before .before .before .before .before .before .before .before .before .before .before .before .before .next-turn .ensures) (c .before .before .before .before .before .before .before .before .before .before .before .before .before .before .before .inside .ensures) (c .before .before .before .before .before .before .before .before .before .before .before .before .before .renew .ensures) (c .before .before .before .before .before .before .before .before .test .ensures) (c .before .before .before .before .renew2 .ensures) (c .before .join2 .ensures) (c .without2 .ensures) (c .before .before .before .before .before .before .before .before .before .before .before .before .before .before .before .before .before .before .before .before .loop .inv .1),
+    )
 
 here-join-requires-3 : (t : ℕ) → here-lts.Need-join-requires-3 (here-calls t) (here-at t) here.Post here-Inv-loop here-μ-loop
 here-join-requires-3 t c κs = search needs
@@ -212,7 +225,7 @@ here-same-length t c =
 
 here-returns : (t : ℕ) → here-lts.Need-returns (here-calls t) (here-at t) here.Post here-Inv-loop here-μ-loop
 here-returns t c =
-    sifting-done (c .before .before .before .before .before .before .before .before .before .before .before .before .before .before .before .before .before .before .before .before .before .before .pre .1 .1) (c .before .before .before .before .before .before .before .before .before .before .before .before .is-empty .ensures .0 (not-false _ (c .before .before .before .before .before .before .before .before .before .before .before .if1 .left))) (c .before .before .before .before .before .before .before .before .before .before .before .before .before .loop .inv .1) (c .before .before .before .before .before .before .before .before .before .before .join3 .ensures) (c .before .before .before .before .before .before .before .before .before .without3 .ensures) (c .before .before .before .before .before .before .before .keep .ensures) (c .before .before .before .keep2 .ensures) (c .meet .ensures)
+    sifting-done (c .before .before .before .before .before .before .before .before .before .before .before .before .before .before .before .before .before .before .before .before .before .before .before .before .pre .1 .1) (c .before .before .before .before .before .before .before .before .before .before .before .before .is-empty .ensures .0 (not-false _ (c .before .before .before .before .before .before .before .before .before .before .before .if1 .left))) (c .before .before .before .before .before .before .before .before .before .before .before .before .before .loop .inv .1) (c .before .before .before .before .before .before .before .before .before .before .join3 .ensures) (c .before .before .before .before .before .before .before .before .before .without3 .ensures) (c .before .before .before .before .before .before .before .keep .ensures) (c .before .before .before .keep2 .ensures) (c .meet .ensures)
 
 -- ---- some_test
 -- what each call asks and tells
@@ -713,7 +726,7 @@ pub +here+some-test+some-walk+star+test+walk-spec : {M : Type 1} → statement M
     μ-star
     μ-test
     μ-walk
-    (λ t. here-lts.spec (here-calls t) (here-at t) here.Post here-Inv-loop here-μ-loop (here-add-part t) (here-kept-requires t) (here-kept-requires-2 t) (here-join-requires t) (here-without-requires t) (here-loop-holds t) (here-is-empty-requires t) (here-earliest-requires t) (here-at-requires t) (here-test-requires t) (here-join-requires-2 t) (here-without-requires-2 t) (here-loop-less t) (here-loop-again t) (here-join-requires-3 t) (here-without-requires-3 t) (here-keep-requires t) (here-keep-requires-2 t) (here-meet-requires t) (here-same-length t) (here-returns t))
+    (λ t. here-lts.spec (here-calls t) (here-at t) here.Post here-Inv-loop here-μ-loop (here-add-part t) (here-second-requires t) (here-kept-requires t) (here-kept-requires-2 t) (here-join-requires t) (here-without-requires t) (here-loop-holds t) (here-is-empty-requires t) (here-next-turn-requires t) (here-inside-requires t) (here-renew-requires t) (here-test-requires t) (here-renew-requires-2 t) (here-join-requires-2 t) (here-without-requires-2 t) (here-loop-less t) (here-loop-again t) (here-join-requires-3 t) (here-without-requires-3 t) (here-keep-requires t) (here-keep-requires-2 t) (here-meet-requires t) (here-same-length t) (here-returns t))
     (λ t. some-test-lts.spec (some-test-calls t) (some-test-at t) some-test.Post some-test-Inv-loop some-test-μ-loop (some-test-add-letter t) (some-test-add-part t) (some-test-second-requires t) (some-test-place-of-requires t) (some-test-turns-requires t) (some-test-forget-requires t) (some-test-loop-holds t) (some-test-is-empty-requires t) (some-test-same-length t) (some-test-returns t) (some-test-rebound-requires t) (some-test-test-requires t) (some-test-forget-requires-2 t) (some-test-join-requires t) (some-test-without-requires t) (some-test-add-next t) (some-test-loop-less t) (some-test-loop-again t) (some-test-same-length-2 t) (some-test-returns-2 t))
     (λ t. some-walk-lts.spec (some-walk-calls t) (some-walk-at t) some-walk.Post some-walk-Inv-loop some-walk-μ-loop (some-walk-is-empty-requires t) (some-walk-returns t) (some-walk-add-letter t) (some-walk-add-part t) (some-walk-second-requires t) (some-walk-place-of-requires t) (some-walk-turns-requires t) (some-walk-forget-requires t) (some-walk-loop-holds t) (some-walk-rebound-requires t) (some-walk-walk-requires t) (some-walk-forget-requires-2 t) (some-walk-join-requires t) (some-walk-add-value t) (some-walk-loop-less t) (some-walk-loop-again t) (some-walk-same-length t) (some-walk-returns-2 t))
     (λ t. star-lts.spec (star-calls t) (star-at t) star.Post star-Inv-loop star-μ-loop (star-add-part t) (star-kept-requires t) (star-without-requires t) (star-loop-holds t) (star-is-empty-requires t) (star-join-requires t) (star-walk-requires t) (star-without-requires-2 t) (star-loop-less t) (star-loop-again t) (star-keep-requires t) (star-same-length t) (star-returns t))

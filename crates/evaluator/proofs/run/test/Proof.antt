@@ -1,4 +1,5 @@
 -- `evaluator::run::test` meets its contract: with a slot for each place, or with none.
+use mathlib.Core.Path.{refl}
 use borrow.Author.Needs.{needs}
 use Rattle.runs.proofs.Keeping.{nothing-kept}
 use Rattle.runs.proofs.Runs.{test-exact}
@@ -24,7 +25,7 @@ test-requires : tie.Need-test-requires
 test-requires c κs = search needs
 
 returns-2 : tie.Need-returns-2
-returns-2 c = test-exact (nothing-kept 0) (c .before .before .before .before .none-bound .ensures) (c .before .test .ensures)
+returns-2 c = test-exact (nothing-kept 0) (c .before .before .before .before .none-bound .ensures) refl (c .before .test .ensures)
 
 pub test-spec : {M : Type 1} → statement M
 test-spec = tie.close (tie.spec keeps-requires test-keeping-requires returns none-bound-requires slice-aggregate-test test-requires returns-2)

@@ -1,4 +1,5 @@
 -- `evaluator::run::test_keeping` meets its contract: a table that is lent has nothing yet.
+use mathlib.Core.Path.{refl}
 use borrow.Author.Needs.{needs}
 use Prim.Native.Nat.{_+_}
 use Rattle.meaning.specs.Limits.{textLimit}
@@ -17,7 +18,7 @@ test-requires : tie.Need-test-requires
 test-requires c κs = search needs
 
 returns : tie.Need-returns
-returns c = test-exact (nothing-kept (textLimit + 1)) (c .before .before .before .before .none-bound .ensures) (c .before .test .ensures)
+returns c = test-exact (nothing-kept (textLimit + 1)) (c .before .before .before .before .none-bound .ensures) refl (c .before .test .ensures)
 
 pub test-keeping-spec : {M : Type 1} → statement M
 test-keeping-spec = tie.close (tie.spec none-bound-requires slice-aggregate-test test-requires returns)

@@ -11,19 +11,19 @@ use Rattle.sheet.proofs.act.read_acts.Statement.{statement}
 use Rattle.sheet.proofs.act.read_acts.Tie as tie
 
 abbrev Inv-loop : tie.InvT-loop
-Inv-loop sheet masks₀ version fluents actions count last₀ a₀ masks last a = (domain start : ℕ) → Acts sheet (headBy version fluents actions last₀ domain start) masks₀ masks a last
+Inv-loop sheet masks₀ version fluents actions count last₀ a₀ masks last a = (domain start reading : ℕ) → Acts sheet (headBy version fluents actions last₀ domain start reading) masks₀ masks a last
 
 abbrev μ-loop : tie.MeasureT-loop
 μ-loop sheet masks₀ version fluents actions count last₀ a₀ masks last a = actions - a
 
 loop-holds : tie.Need-loop-holds Inv-loop μ-loop
-loop-holds c = let s = c .before .before .before .before .before .before in λ domain start. acts-none _ (headBy _ _ _ _ domain start) _ (s .pre .below)
+loop-holds c = let s = c .before .before .before .before .before .before in λ domain start reading. acts-none _ (headBy _ _ _ _ domain start reading) _ (s .pre .below)
 
 add-at : tie.Need-add-at Inv-loop μ-loop
-add-at c = let read = c .before .before .loop .inv 0 0 in omega (arith, read .below .within)
+add-at c = let read = c .before .before .loop .inv 0 0 0 in omega (arith, read .below .within)
 
 add-line : tie.Need-add-line Inv-loop μ-loop
-add-line c = let read = c .before .before .before .loop .inv 0 0 in omega (arith, read .below .within, read .below .early)
+add-line c = let read = c .before .before .before .loop .inv 0 0 0 in omega (arith, read .below .within, read .below .early)
 
 -- the turn of the loop, from the place where the masks of its action go
 abbrev entry : tie.At-loop Inv-loop μ-loop → tie.Start Inv-loop μ-loop
@@ -40,7 +40,7 @@ act-line-requires : tie.Need-act-line-requires Inv-loop μ-loop
 act-line-requires c κs =
     let turn = c .before .before .before .before in
     let s = entry turn in
-    let read = turn .loop .inv 0 0 in
+    let read = turn .loop .inv 0 0 0 in
     let fits = row-within (s .args .head) (turn .loop .a) (c .before .before .before .loop-test .taken) in
     (omega (arith, read .below .within), s .pre .usable, s .pre .ranged .fewFluents, omega (arith, fits, s .pre .room, read .long, masks-fit (s .args .head) (s .pre .usable)))
 
@@ -57,7 +57,7 @@ table k = k .before .before .act-line .last .1 .1 .1 .1 .1 .0
 same-length : tie.Need-same-length Inv-loop μ-loop
 same-length c =
     let k = c .before .before .before in
-    k .before .before .act-line .kept .1 .1 .1 .1 .1 .0 ∙ turned k .loop .inv 0 0 .long
+    k .before .before .act-line .kept .1 .1 .1 .1 .1 .0 ∙ turned k .loop .inv 0 0 0 .long
 
 returns : tie.Need-returns Inv-loop μ-loop
 returns c =
@@ -65,7 +65,7 @@ returns c =
     let turn = turned k in
     let a = entry turn .args in
     let h = a .head in
-    acts-fault (a .sheet .now) h (a .masks .now) (turn .loop .masks) (turn .loop .a) (turn .loop .last) (turn .loop .inv (h .setting .counts .domain) (h .setting .start))
+    acts-fault (a .sheet .now) h (a .masks .now) (turn .loop .masks) (turn .loop .a) (turn .loop .last) (turn .loop .inv (h .setting .counts .domain) (h .setting .start) (h .setting .reading))
     (k .before .before .before .before .before .before .loop-test .taken)
     (subst (LineRead (actForm (h .version) (h .setting .counts .fluents)) (a .sheet .now) (turn .loop .last .end + 1) (turn .loop .last .line + 1) (λ c. rowAt (table k) (h .version .masks * turn .loop .a) (h .version .masks)))
     (c .before .f .given .1)
@@ -87,8 +87,8 @@ loop-again c =
     let a = entry turn .args in
     let h = a .head in
     let told = k .before .before .act-line .ensures in
-    λ domain start.
-    acts-more (a .sheet .now) (headBy (h .version) (h .setting .counts .fluents) (h .setting .counts .actions) (h .last) domain start) (a .masks .now) (turn .loop .masks) (turn .loop .a) (turn .loop .last) (turn .loop .inv domain start)
+    λ domain start reading.
+    acts-more (a .sheet .now) (headBy (h .version) (h .setting .counts .fluents) (h .setting .counts .actions) (h .last) domain start reading) (a .masks .now) (turn .loop .masks) (turn .loop .a) (turn .loop .last) (turn .loop .inv domain start reading)
     (k .before .before .before .before .before .before .loop-test .taken)
     (table k)
     (c .before .c .given .0 .0)
@@ -99,12 +99,12 @@ loop-again c =
     (told .1))
 
 same-length-2 : tie.Need-same-length-2 Inv-loop μ-loop
-same-length-2 c = c .before .loop .inv 0 0 .long
+same-length-2 c = c .before .loop .inv 0 0 0 .long
 
 returns-2 : tie.Need-returns-2 Inv-loop μ-loop
 returns-2 c =
     let h = entry (c .before) .args .head in
-    acts-done _ h _ _ _ _ (c .before .loop .inv (h .setting .counts .domain) (h .setting .start)) (c .loop-test .left)
+    acts-done _ h _ _ _ _ (c .before .loop .inv (h .setting .counts .domain) (h .setting .start) (h .setting .reading)) (c .loop-test .left)
 
 pub read-acts-spec : {M : Type 1} → statement M
 read-acts-spec =

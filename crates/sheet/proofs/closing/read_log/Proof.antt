@@ -7,7 +7,7 @@ use borrow.Author.Needs.{needs}
 use lib.ListN.{take}
 use Rattle.theory.specs.Subject.{countsOf}
 use Rattle.sheet.specs.Forms.{logForm}
-use Rattle.sheet.specs.Lines.{withLog, fromAsk}
+use Rattle.sheet.specs.Lines.{withLog, fromNow}
 use Rattle.sheet.specs.Found.{Accepts, LineRead}
 use Rattle.sheet.specs.Log.{LogKept}
 use Rattle.sheet.specs.declared.Cursor.{Cursor}
@@ -64,8 +64,8 @@ kept k =
     let l = called k in
     subst (LogKept (entry l .args .version .log) (entry l .args .log .now) (exit l)) (k .before .c .given .1) (l .log-line .ensures .1)
 
-read-ask-requires : tie.Need-read-ask-requires
-read-ask-requires c κs =
+read-now-requires : tie.Need-read-now-requires
+read-now-requires c κs =
     let k = c .before in
     let s = entry (called k) in
     let a = s .args in (
@@ -82,7 +82,7 @@ returns c =
     let l = c .before .before .before .before .before in
     let a = entry l .args in
     λ s e.
-    at-line (logForm (a .version) (countsOf (s .subject) .actions)) (a .sheet .now) (a .above .end + 1) (a .above .line + 1) (λ log at. fromAsk (withLog s log))
+    at-line (logForm (a .version) (countsOf (s .subject) .actions)) (a .sheet .now) (a .above .end + 1) (a .above .line + 1) (λ log at. fromNow (a .version) (withLog s log))
     (subst (λ (p : Parsed). LineRead (logForm (a .version) (p .setting .counts .actions)) (a .sheet .now) (a .above .end + 1) (a .above .line + 1) (λ c. take (c .number) (exit l)) (Faulty (c .before .f .given .0 .0))) e
     (subst (LineRead (logForm (a .version) (a .said .setting .counts .actions)) (a .sheet .now) (a .above .end + 1) (a .above .line + 1) (λ c. take (c .number) (exit l))) (c .before .f .given .1)
     (l .log-line .ensures .0)))
@@ -99,10 +99,10 @@ returns-2 c =
     λ s e.
     log-read (a .sheet .now) (a .above .end + 1) (a .above .line + 1) (a .said) (it k) s e (a .version) (a .log .now) (exit l)
     (omega (arith, kept k .0, pre .1 .short, pre .3, l .log-line .kept .1 .1 .1 .1 .1 .0))
-    (c .read-ask .result)
+    (c .read-now .result)
     (read k)
     (kept k .1)
-    (c .read-ask .ensures)
+    (c .read-now .ensures)
 
 pub read-log-spec : {M : Type 1} → statement M
 read-log-spec =
@@ -114,7 +114,7 @@ read-log-spec =
     enum-known-f
     enum-known-c
     cast-said
-    read-ask-requires
+    read-now-requires
     same-length
     returns
     same-length-2

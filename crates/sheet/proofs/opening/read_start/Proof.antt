@@ -32,7 +32,7 @@ form s = startForm (s .args .counts .fluents)
 
 -- the lines below it
 abbrev below : tie.Start → ℕ → ℕ → Lines
-below s start at = fromActs (s .args .version) (settingOf (s .args .counts .fluents) (s .args .counts .actions) (s .args .counts .domain) start)
+below s start at = fromActs (s .args .version) (settingOf (s .args .counts .fluents) (s .args .counts .actions) (s .args .counts .domain) start 0)
 
 returns : tie.Need-returns
 returns c =

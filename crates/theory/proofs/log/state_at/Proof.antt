@@ -12,7 +12,7 @@ use Rattle.theory.proofs.log.state_at.Tie as tie
 
 -- the world as far as a state depends on it: the counts do not matter
 abbrev world : ℕ → List ℕ → List ℕ → World
-world start masks log = worldOf (subjectOf (settingOf 0 0 0 start) masks log)
+world start masks log = worldOf (subjectOf (settingOf 0 0 0 start 0) masks log)
 
 abbrev Inv-loop : tie.InvT-loop
 Inv-loop masks log p state₀ i₀ state i = (i ≤ p) × (state ≡ stateAt (world state₀ masks log) i)
