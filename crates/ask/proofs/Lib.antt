@@ -3,3 +3,4 @@ pub mod Answering
 pub mod Jobs
 pub mod Determined
 pub mod Consequences
+pub mod Stands

@@ -1,4 +1,5 @@
 pub mod Chain
+pub mod Repeated
 pub mod Bounds
 pub mod Readings
 pub mod Converse
@@ -9,6 +10,7 @@ pub mod Rewriting
 pub mod Theory
 pub mod Reach
 pub mod Cut
+pub mod Stands
 pub mod Onward
 pub mod Asks
 pub mod StandIn

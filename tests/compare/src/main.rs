@@ -1,8 +1,9 @@
 //! Compares every call of the proved library with the second implementation, on seeded inputs: answers, refusals, every slot, and every lent byte before and after, through the
-//! exported functions; and the safe Rust crate's answers; and a rule with variables with the same rule written out. `compare [SEED [COUNT]]`. It ends with a line 'N inputs compared, 0 differ' or shows the first input that differs.
+//! exported functions; and the safe Rust crate's answers; and a rule with variables with the same rule written out, and a log with another that is the same up to now. `compare [SEED [COUNT]]`. It ends with a line 'N inputs compared, 0 differ' or shows the first input that differs.
 mod boards;
 mod calls;
 mod make;
+mod stands;
 mod tallies;
 mod written;
 
@@ -32,7 +33,7 @@ impl Tally {
     }
 
     fn show(&self) {
-        for call in ["state", "reach", "verdict", "board", "first refused test of a board", "possible", "next", "tally", "append", "happened", "finish", "finish with actions", "rules with variables", "written out", "read_rule", "normal", "read_sheet", "answer"] {
+        for call in ["state", "reach", "verdict", "board", "first refused test of a board", "possible", "next", "tally", "append", "happened", "finish", "finish with actions", "rules with variables", "written out", "yesterday's answer", "read_rule", "normal", "read_sheet", "answer"] {
             let of = self.0.iter().filter(|((c, _), _)| *c == call);
             let counts: Vec<String> = of.map(|((_, n), k)| if *n == 0 { format!("answered {k}") } else { format!("refused {n}: {k}") }).collect();
             println!("{call}: {}", counts.join(", "));
@@ -251,6 +252,7 @@ fn main() {
         texts(&mut d, &i, &mut tally);
         finishes(&mut d, &i, &mut tally);
         written::written(&mut d, &i, &mut tally);
+        stands::stands(&mut d, &i, &mut tally);
         sheets(&mut d, &mut tally);
         if k % 16 == 0 {
             laws(&mut d, &i);
