@@ -1,4 +1,4 @@
--- Which truth a test may have, sign by sign: all the mathematics of `may_be`. Knows the text by the rules that stand in it; bar code.
+-- Which truth a test may have, sign by sign: all the mathematics of `may_be`. Knows the text by the rules that stand in it; no code.
 use mathlib.Core.Path.{_≡_, refl, sym, subst, _∙_}
 use mathlib.Core.Logic.{inl, inr}
 use mathlib.Core.Bool.{Bool, true, false, not, cond, _&&_, _||_, true≢false}
