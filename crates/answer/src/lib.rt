@@ -1,3 +1,4 @@
+#![tactic(auto)]
 // One sheet's outcome as a value, and its text in lent output: what is printed is settled here, up to the write itself.
 ghost use Rattle.std.specs.Prelude.{◌≤◌, length};
 ghost use Rattle.spelling.specs.Wrote.{Wrote};

@@ -1,3 +1,4 @@
+#![tactic(auto)]
 // Reach and verdict: a rule asked about a log. Knows the tables that the log was transposed into, and no state.
 ghost use Rattle.std.proofs.Math.Option.{some};
 ghost use Rattle.meaning.specs.Rule.{test_kind};

@@ -1,3 +1,4 @@
+#![tactic(auto)]
 // The exported functions that ask a rule of a log: thin over a proved call each, they promise what that call promises. A slice is a pointer and a length in C; a number beside the refusal is a lent slot,
 // which is always written. They have the domain of the rule's variables, 0 where it has none, and how a test inside a walk is read, 0 for `step`, 1 for `end`.
 ghost use Rattle.ask.specs.Reach.{ReachAnswered};

@@ -1,3 +1,4 @@
+#![tactic(auto)]
 // The whole board at once: up to 64 tests about one log, a byte each. The theory and the log are checked, and the log is transposed, once for all of them. Knows no rule.
 ghost use Rattle.theory.specs.Subject.{subject_of};
 ghost use Rattle.board.specs.Answer.{number_given, count_given, BoardAnswered};

@@ -1,3 +1,4 @@
+#![tactic(auto)]
 // Runs every row of one table of sheets, and says of each whether it is answered as the row says. The table comes on standard input: first a sheet, then
 // rows. A row is a line `# NAME`, which names the sentence that it shows; lines `NN:TEXT`, which stand in the place of the sheet's line NN, and `NN-`, which
 // leaves that line out (a text that ends in `\` has no LF, and the sheet ends there); and lines `> TEXT`, the answer.

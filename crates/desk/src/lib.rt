@@ -1,3 +1,4 @@
+#![tactic(auto)]
 // The carton desk, for packers who write no rules: whether a label may be printed, and which is the lowest that is not out. It asks the library about a theory
 // in which the print of a label needs all lower ones, and knows of its calls what they promise. Nothing is kept between calls.
 ghost use Rattle.desk.specs.Answer.{PrintAnswered, LowestAnswered};

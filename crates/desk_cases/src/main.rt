@@ -1,3 +1,4 @@
+#![tactic(auto)]
 // Runs the desk's two calls on a table of cases and compares number and slot, which holds 99 before the call. One line a case.
 use libc::STDOUT_FILENO;
 

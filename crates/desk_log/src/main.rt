@@ -1,3 +1,4 @@
+#![tactic(auto)]
 // The desk for packers: reads the log on standard input, on each line a label's number or the word void, and answers each line: whether it was in order, and
 // which label comes next. How many cartons there are is the argument.
 ghost use Rattle.std.specs.Prelude.{◌≡◌, ◌↔◌, true, ◌≤◌, length, take};

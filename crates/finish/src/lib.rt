@@ -1,3 +1,4 @@
+#![tactic(auto)]
 // The search for the sequence that finishes a job: shorter before longer, then smaller action numbers first. Knows the theory, the log and the job's text.
 ghost use Rattle.std.specs.Prelude.{length};
 ghost use Rattle.meaning.specs.Refusal.{Accepted};

@@ -1,3 +1,4 @@
+#![tactic(auto)]
 // The finish rows of document 01 that are not P, the paper's coffee delivery (Example 12), the limits and the refusals, and jobs with variables (document 02, Q-2): a line for each
 // call, with its answer and what is left of an output of dots.
 mod show;

@@ -1,3 +1,4 @@
+#![tactic(auto)]
 // The text of a rule by its bytes: which byte is which sign, which letter a variable's, and where each rule of a text ends. Knows no theory, and not whether a text is a rule.
 pub mod ends; // ends.rt: where each rule of a text ends
 pub mod letters; // letters.rt: the letters of variables

@@ -1,3 +1,4 @@
+#![tactic(auto)]
 // Answers the sheet on standard input. A sheet has at most 6,738 bytes: one byte more is read, so that a longer one is seen to be, and nothing after it.
 use answer::ANSWER_ROOM;
 use libc::{STDIN_FILENO, STDOUT_FILENO};

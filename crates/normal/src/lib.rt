@@ -1,3 +1,4 @@
+#![tactic(auto)]
 // The rewriter to converse normal form: `-` is pushed inward until none is left. Knows the rule's text and lent output; no theory and no log.
 ghost use Rattle.rule.specs.Outcome.{kind_of};
 ghost use Rattle.normal.specs.Answer.{number_given, count_given, NormalAnswered};

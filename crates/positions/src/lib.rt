@@ -1,3 +1,4 @@
+#![tactic(auto)]
 // A set of positions of a log, by value. A caller knows which positions a set holds, and the set as a number (`word`), and nothing else of it.
 ghost use Rattle.std.specs.Prelude.{◌≡◌, ◌↔◌, true, not, ◌&&◌, ◌||◌, ℕ, ◌+◌, ◌-◌, eqb, leb, ltb};
 ghost use Rattle.meaning.specs.Limits.{places};

@@ -1,3 +1,4 @@
+#![tactic(auto)]
 // The refusals of document 01: one case for each row of its table "Numbers of refusal", and those that document 02 adds. Knows no call and no input.
 ghost use Rattle.std.specs.Prelude.{◌≡◌};
 ghost use Rattle.refusal.specs.Number.{number_of};

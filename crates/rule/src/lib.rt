@@ -1,3 +1,4 @@
+#![tactic(auto)]
 // Reads a rule: whether it fits, and where it ends. Knows the text alone; what a rule means is another crate's.
 ghost use Rattle.std.specs.Prelude.{true};
 ghost use Rattle.theory.specs.Check.{Settled};

@@ -1,3 +1,4 @@
+#![tactic(auto)]
 // The exported functions for one rule's text: thin over a proved call each, they promise what that call promises. A slice is a pointer and a length in C; a number beside the refusal is a lent slot, which
 // is always written. They look at the counts and the domain alone.
 ghost use Rattle.exported.specs.Exported.{counted};

@@ -1,3 +1,4 @@
+#![tactic(auto)]
 // Runs the reading of rules on a table of cases and compares: the number and the rest that reading one rule gives, and the number for exactly one
 // rule. One line a case; then a table of ends.
 use libc::STDOUT_FILENO;

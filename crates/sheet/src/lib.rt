@@ -1,3 +1,4 @@
+#![tactic(auto)]
 // Reads a job sheet: finds its first faulty line, or what the sheet says.
 ghost use Rattle.sheet.specs.Answer.{SheetAnswered};
 ghost use Rattle.sheet.specs.Sections.{LinesFound};

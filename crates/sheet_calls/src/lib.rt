@@ -1,3 +1,4 @@
+#![tactic(auto)]
 // The exported functions for a whole sheet: thin over a proved call each, they promise what that call promises. A slice is a pointer and a length in C.
 ghost use Rattle.answer.specs.Written.{AnswerWritten};
 ghost use Rattle.sheet_calls.specs.Exported.{SheetExported};

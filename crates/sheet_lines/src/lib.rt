@@ -1,3 +1,4 @@
+#![tactic(auto)]
 // The lines of a sheet, one at a time: what the line at a place says, or why it is refused, and the versions that say which lines there are. Knows no order of lines.
 ghost use Rattle.std.specs.Prelude.{◌≡◌, min, length};
 ghost use Rattle.rule.specs.Outcome.{PartAt};

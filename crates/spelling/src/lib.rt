@@ -1,3 +1,4 @@
+#![tactic(auto)]
 // How numbers, keys and actions are spelled in bytes. Knows no rule and no sheet.
 pub mod scan; // scan.rt: reads digits, numbers, a key, the end of a line
 pub mod put; // put.rt: writes texts, numbers and actions into lent output

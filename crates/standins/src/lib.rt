@@ -1,3 +1,4 @@
+#![tactic(auto)]
 // Actions that a smaller one stands in for: the job names neither, both are possible in the same states, their clauses act in the same states, and both do the
 // same to every fluent that matters (named in the job, or in any need, ban, when or unless). A search for the first sequence that finishes the job need not try them: with
 // the smaller action in its place a sequence comes earlier. A job with a variable in a name is taken to name all. Knows the mask table and the job's text; no log.

@@ -1,3 +1,4 @@
+#![tactic(auto)]
 // The log, transposed: a row of positions for each action, for each fluent, and one for the steps that were possible. Whoever asks of many positions at
 // once asks these. A row is a word, in which bit p is position p.
 ghost use Rattle.std.specs.Prelude.{◌≡◌, ◌&&◌, ℕ, ◌≤◌, ◌<◌, leb, length};

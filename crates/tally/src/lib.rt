@@ -1,3 +1,4 @@
+#![tactic(auto)]
 // A running tally beside the log of one job: each action's count of possible occurrences and its last one, the last impossible step, and what the next append
 // needs. A place is kept as the position after the step, 0 for none, so that the quick yes is one comparison. Knows theory and log, and no rule.
 ghost use Rattle.theory.specs.Subject.{setting_of, subject_of};

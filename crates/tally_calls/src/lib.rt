@@ -1,3 +1,4 @@
+#![tactic(auto)]
 // The exported functions for a running tally: thin over a proved call each, they promise what that call promises. A slice is a pointer and a length in C; a number beside the refusal is a lent slot, which
 // is always written. They have no rule, so neither domain nor reading.
 ghost use Rattle.theory.specs.Subject.{setting_of};

@@ -1,3 +1,4 @@
+#![tactic(auto)]
 // States, actions and logs: whether an action is possible, what it does, the state at a position, and which refusal a theory or a log has. Knows no
 // rule and no sheet.
 ghost use Rattle.std.specs.Prelude.{◌≡◌};
