@@ -31,9 +31,10 @@ then_waits {k} move f g p q n h low high = elim (dec_lt k h.0) [
   | no l ↦ inr (h.0, move p h.0 n k h.1 (omega arith), g h.0 q n h.2 (omega arith) high)
 ]
 
-many_waits : {k : ℕ} {r : Rel} {x : ℕ → Type 0} → Movable r → Waits k r x → Waits k (Many r) (λ p. (m : ℕ) × Many r p m k × x m)
-many_waits {k} move f p q n (stay e here) low high = absurd (omega arith)
-many_waits {k} {r} {x} move f p q n (link {m = m} step more) low high = go (dec_lt k m) (many_waits move f m q n more)
+-- now stays, while the positions change
+waits_at : (n : ℕ) {k : ℕ} {r : Rel} {x : ℕ → Type 0} → Movable r → Waits k r x → (p q : ℕ) → Many r p q n → p ≤ k → k < q → (m : ℕ) × Many r p m k × x m
+waits_at n {k} move f p q (stay e here) low high = absurd (omega arith)
+waits_at n {k} {r} {x} move f p q (link {m = m} step more) low high = go (dec_lt k m) (waits_at n move f m q more)
   where
     go : Dec (k < m) → (m ≤ k → k < q → (i : ℕ) × Many r m i k × x i) → (i : ℕ) × Many r p i k × x i
     go (yes l) rest = (p, stay refl low, f p m n step low l)
@@ -41,6 +42,9 @@ many_waits {k} {r} {x} move f p q n (link {m = m} step more) low high = go (dec_
         let low' : m ≤ k = omega arith in
         let found = rest low' high in
         (found.0, link (move p m n k step low') found.1, found.2)
+
+many_waits : {k : ℕ} {r : Rel} {x : ℕ → Type 0} → Movable r → Waits k r x → Waits k (Many r) (λ p. (m : ℕ) × Many r p m k × x m)
+many_waits move f p q n h low high = waits_at n move f p q h low high
 
 or_waits : {k : ℕ} {r s : Rel} {x y : ℕ → Type 0} → Waits k r x → Waits k s y → Waits k (Or r s) (λ p. x p ⊎ y p)
 or_waits f g p q n (inl h) low high = inl (f p q n h low high)

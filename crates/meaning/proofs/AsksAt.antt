@@ -87,11 +87,12 @@ then_waits k t base behind middle late most move up count f g p q n l h low high
   | no i ↦ inr (h.0, move p h.0 n k h.1 (omega arith), g h.0 q n l h.2 (omega arith) high e same)
 ]
 
-many_waits : (k t base behind rounds : ℕ) {r : Rel} {x : ℕ → Type 0} → base ≤ k → t ≤ more_limit → Movable r → Onward r → Counted base r rounds rounds → Inside behind rounds
-    → Waits k t r rounds x → Waits k t (Many r) behind (λ p. (m : ℕ) × Many r p m k × x m)
-many_waits k t base behind rounds late most move up count start f p q n l (stay e here) low high g same = absurd (omega arith)
-many_waits k t base behind rounds {r = r} {x = x} late most move up count start f p q n l (link {m = m} step more) low high e same =
-    go (dec_lt k m) (many_waits k t base behind rounds late most move up count start f m q n l more)
+-- now stays, while the positions change
+waits_at : (n l k t base behind rounds : ℕ) {r : Rel} {x : ℕ → Type 0} → base ≤ k → t ≤ more_limit → Movable r → Onward r → Counted base r rounds rounds → Inside behind rounds
+    → Waits k t r rounds x → (p q : ℕ) → Many r p q n → p ≤ k → k < q → on behind l ≡ true → k + 1 + t ≡ q + l → (m : ℕ) × Many r p m k × x m
+waits_at n l k t base behind rounds late most move up count start f p q (stay e here) low high g same = absurd (omega arith)
+waits_at n l k t base behind rounds {r = r} {x = x} late most move up count start f p q (link {m = m} step more) low high e same =
+    go (dec_lt k m) (waits_at n l k t base behind rounds late most move up count start f m q more)
   where
     go : Dec (k < m) → (m ≤ k → k < q → on behind l ≡ true → k + 1 + t ≡ q + l → (i : ℕ) × Many r m i k × x i) → (i : ℕ) × Many r p i k × x i
     go (yes i) rest =
@@ -101,6 +102,10 @@ many_waits k t base behind rounds {r = r} {x = x} late most move up count start 
         let low' : m ≤ k = omega arith in
         let found = rest low' high e same in
         (found.0, link (move p m n k step low') found.1, found.2)
+
+many_waits : (k t base behind rounds : ℕ) {r : Rel} {x : ℕ → Type 0} → base ≤ k → t ≤ more_limit → Movable r → Onward r → Counted base r rounds rounds → Inside behind rounds
+    → Waits k t r rounds x → Waits k t (Many r) behind (λ p. (m : ℕ) × Many r p m k × x m)
+many_waits k t base behind rounds late most move up count start f p q n l h low high e same = waits_at n l k t base behind rounds late most move up count start f p q h low high e same
 
 waits : (w : World) (x : Walk) → backward x ≡ false → (ons offs : ℕ) (follow : List ℕ) (base k t a : ℕ) → base ≤ k → t ≤ more_limit → step_at w k ≡ some a
     → ((p : ℕ) → base ≤ p → Turning ons offs (state_before w p)) → (at behind before : ℕ) → Measured ons offs follow at x behind before

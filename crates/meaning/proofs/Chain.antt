@@ -24,6 +24,10 @@ chain_turn {n = n} low f (stay e here) = stay (sym e) (subst (λ (k : ℕ). k �
 chain_turn {n = n} low f (link {p = p} {m = m} step more) =
     chain_append (chain_turn low f more) (chain_one (f p m step) (low p m n step).0)
 
+-- now stays, while the positions change
+within_at : {r : Rel} (n : ℕ) → Within r → (p q : ℕ) → Chain r n p q → (p ≤ n) × (q ≤ n)
+within_at n low p q (stay e here) = (here, subst (λ (k : ℕ). k ≤ n) (sym e) here)
+within_at n low p q (link {m = m} step more) = ((low p m n step).0, (within_at n low m q more).1)
+
 pub many_within : {r : Rel} → Within r → Within (Many r)
-many_within low p q n (stay e here) = (here, subst (λ (k : ℕ). k ≤ n) (sym e) here)
-many_within low p q n (link {m = m} step more) = ((low p m n step).0, (many_within low m q n more).1)
+many_within low p q n h = within_at n low p q h

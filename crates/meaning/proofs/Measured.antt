@@ -5,6 +5,7 @@ use mathlib.Core.Logic.{inl, inr, ⊎_elim}
 use mathlib.Core.Bool.{true, false, true≢false}
 use mathlib.Core.List.{List}
 use Prim.Native.Nat.{ℕ, ◌+◌, ◌-◌, ◌≤◌}
+use lib.ListN.{length}
 use native.Mathlib.Omega.{arith}
 use lib.Bits.{bit_or}
 use Rattle.laws.specs.Bit.{on}
@@ -13,7 +14,7 @@ use Rattle.laws.proofs.On.{on_none}
 use Rattle.laws.proofs.Bitwise.{on_or}
 use Rattle.meaning.specs.Limits.{more_limit}
 use Rattle.meaning.specs.Theory.{World, bind, state_before}
-use Rattle.meaning.specs.Rule.{Walk, act, undo, next, prev, seq, alt, star, check, conv, pick, backward}
+use Rattle.meaning.specs.Rule.{Walk, act, undo, next, prev, seq, alt, star, check, conv, pick, backward, walk_text}
 use Rattle.meaning.specs.Leads.{Rel, Leads, Then, Many, stay, link, own_now}
 use Rattle.meaning.specs.Lengths.{Turning, Inside, Longer, Measured, Grown}
 use Rattle.meaning.proofs.Onward.{Onward, neither, onward, many_onward}
@@ -44,12 +45,12 @@ measured_none ons offs follow at (act a) = (none_inside _, λ l h e. absurd (off
 measured_none ons offs follow at (undo a) = tt
 measured_none ons offs follow at next = (none_inside _, λ l h e. absurd (off_on (on_none l) e))
 measured_none ons offs follow at prev = tt
-measured_none ons offs follow at (seq v x) = (0, measured_none ons offs follow _ x, measured_none ons offs follow _ v)
-measured_none ons offs follow at (alt v x) = (measured_none ons offs follow _ v, measured_none ons offs follow _ x)
-measured_none ons offs follow at (star x) = (0, none_inside 0, measured_none ons offs follow _ x, none_inside 0)
+measured_none ons offs follow at (seq v x) = (0, measured_none ons offs follow (at + 1 + length (walk_text v)) x, measured_none ons offs follow (at + 1) v)
+measured_none ons offs follow at (alt v x) = (measured_none ons offs follow (at + 1) v, measured_none ons offs follow (at + 1 + length (walk_text v)) x)
+measured_none ons offs follow at (star x) = (0, none_inside 0, measured_none ons offs follow (at + 1) x, none_inside 0)
 measured_none ons offs follow at (check t) = inr (none_inside 0)
 measured_none ons offs follow at (conv x) = tt
-measured_none ons offs follow at (pick v x) = measured_none ons offs follow _ x
+measured_none ons offs follow at (pick v x) = measured_none ons offs follow (at + 2) x
 
 -- of fewer behind it, of more before it, and in a table that has grown
 pub measured_wide : (ons offs : ℕ) (follow larger : List ℕ) (at : ℕ) (x : Walk) (behind before fewer more : ℕ) → Grown follow larger → Inside fewer behind → Inside before more
@@ -61,21 +62,21 @@ measured_wide ons offs f f' at next b r b' r' g fewer more h = (λ l e. g at l (
 measured_wide ons offs f f' at prev b r b' r' g fewer more h = tt
 measured_wide ons offs f f' at (seq v x) b r b' r' g fewer more h = (
   h.0,
-  measured_wide ons offs f f' _ x b h.0 b' h.0 g fewer (λ l e. e) h.1,
-  measured_wide ons offs f f' _ v h.0 r h.0 r' g (λ l e. e) more h.2,
+  measured_wide ons offs f f' (at + 1 + length (walk_text v)) x b h.0 b' h.0 g fewer (λ l e. e) h.1,
+  measured_wide ons offs f f' (at + 1) v h.0 r h.0 r' g (λ l e. e) more h.2,
 )
 measured_wide ons offs f f' at (alt v x) b r b' r' g fewer more h =
-    (measured_wide ons offs f f' _ v b r b' r' g fewer more h.0, measured_wide ons offs f f' _ x b r b' r' g fewer more h.1)
+    (measured_wide ons offs f f' (at + 1) v b r b' r' g fewer more h.0, measured_wide ons offs f f' (at + 1 + length (walk_text v)) x b r b' r' g fewer more h.1)
 measured_wide ons offs f f' at (star x) b r b' r' g fewer more h = (
   h.0,
   λ l e. h.1 l (fewer l e),
-  measured_wide ons offs f f' _ x h.0 h.0 h.0 h.0 g (λ l e. e) (λ l e. e) h.2,
+  measured_wide ons offs f f' (at + 1) x h.0 h.0 h.0 h.0 g (λ l e. e) (λ l e. e) h.2,
   λ l e. more l (h.3 l e),
 )
 measured_wide ons offs f f' at (check t) b r b' r' g fewer more (inl never) = inl never
 measured_wide ons offs f f' at (check t) b r b' r' g fewer more (inr h) = inr (λ l e. more l (h l (fewer l e)))
 measured_wide ons offs f f' at (conv x) b r b' r' g fewer more h = tt
-measured_wide ons offs f f' at (pick v x) b r b' r' g fewer more h = measured_wide ons offs f f' _ x b r b' r' g fewer more h
+measured_wide ons offs f f' at (pick v x) b r b' r' g fewer more h = measured_wide ons offs f f' (at + 2) x b r b' r' g fewer more h
 
 -- of two sets of lengths behind it together
 pub measured_both : (ons offs : ℕ) (follow : List ℕ) (at : ℕ) (x : Walk) (b c r s : ℕ) → Measured ons offs follow at x b r → Measured ons offs follow at x c s
@@ -86,20 +87,20 @@ measured_both ons offs f at (undo a) b c r s h k = tt
 measured_both ons offs f at next b c r s h k = (or_inside b c _ h.0 k.0, both_longer b c r s h.1 k.1)
 measured_both ons offs f at prev b c r s h k = tt
 measured_both ons offs f at (seq v x) b c r s h k =
-    (bit_or h.0 k.0, measured_both ons offs f _ x b c h.0 k.0 h.1 k.1, measured_both ons offs f _ v h.0 k.0 r s h.2 k.2)
+    (bit_or h.0 k.0, measured_both ons offs f (at + 1 + length (walk_text v)) x b c h.0 k.0 h.1 k.1, measured_both ons offs f (at + 1) v h.0 k.0 r s h.2 k.2)
 measured_both ons offs f at (alt v x) b c r s h k =
-    (measured_both ons offs f _ v b c r s h.0 k.0, measured_both ons offs f _ x b c r s h.1 k.1)
+    (measured_both ons offs f (at + 1) v b c r s h.0 k.0, measured_both ons offs f (at + 1 + length (walk_text v)) x b c r s h.1 k.1)
 measured_both ons offs f at (star x) b c r s h k = (
   bit_or h.0 k.0,
   both_inside b c h.0 k.0 h.1 k.1,
-  measured_both ons offs f _ x h.0 k.0 h.0 k.0 h.2 k.2,
+  measured_both ons offs f (at + 1) x h.0 k.0 h.0 k.0 h.2 k.2,
   both_inside h.0 k.0 r s h.3 k.3,
 )
 measured_both ons offs f at (check t) b c r s (inl never) k = inl never
 measured_both ons offs f at (check t) b c r s (inr h) (inl never) = inl never
 measured_both ons offs f at (check t) b c r s (inr h) (inr k) = inr (both_inside b c r s h k)
 measured_both ons offs f at (conv x) b c r s h k = tt
-measured_both ons offs f at (pick v x) b c r s h k = measured_both ons offs f _ x b c r s h k
+measured_both ons offs f at (pick v x) b c r s h k = measured_both ons offs f (at + 2) x b c r s h k
 
 -- From a position at or behind `base` the relation takes only such lengths: l steps are left behind its end, and t before it.
 abbrev pub Counted : ℕ → Rel → ℕ → ℕ → Type 0
@@ -113,12 +114,17 @@ then_counted base behind middle before up up' g f p q n l t low h e same most =
     let b : m ≤ q = up' m q n h.2 in
     f p m n (q + l - m) t low h.1 (g m q n l (q + l - m) (omega arith) h.2 e (omega arith) (omega arith)) (omega arith) most
 
-pub many_counted : (base behind rounds : ℕ) {r : Rel} → Onward r → Inside behind rounds → Counted base r rounds rounds → Counted base (Many r) behind rounds
-many_counted base behind rounds up start f p q n l t low (stay e here) k same most = subst (λ (i : ℕ). on rounds i ≡ true) (omega arith) (start l k)
-many_counted base behind rounds up start f p q n l t low (link {m = m} step more) k same most =
+-- now stays, while the positions change
+counted_at : (n base behind rounds : ℕ) {r : Rel} → Onward r → Inside behind rounds → Counted base r rounds rounds
+    → (p q l t : ℕ) → base ≤ p → Many r p q n → on behind l ≡ true → p + t ≡ q + l → t ≤ more_limit → on rounds t ≡ true
+counted_at n base behind rounds up start f p q l t low (stay e here) k same most = subst (λ (i : ℕ). on rounds i ≡ true) (omega arith) (start l k)
+counted_at n base behind rounds up start f p q l t low (link {m = m} step more) k same most =
     let a : p ≤ m = up p m n step in
     let b : m ≤ q = many_onward up m q n more in
-    f p m n (q + l - m) t low step (many_counted base behind rounds up start f m q n l (q + l - m) (omega arith) more k (omega arith) (omega arith)) (omega arith) most
+    f p m n (q + l - m) t low step (counted_at n base behind rounds up start f m q l (q + l - m) (omega arith) more k (omega arith) (omega arith)) (omega arith) most
+
+pub many_counted : (base behind rounds : ℕ) {r : Rel} → Onward r → Inside behind rounds → Counted base r rounds rounds → Counted base (Many r) behind rounds
+many_counted base behind rounds up start f p q n l t low h k same most = counted_at n base behind rounds up start f p q l t low h k same most
 
 step_counted : (base behind before p q l t : ℕ) → Longer behind before → q ≡ p + 1 → on behind l ≡ true → p + t ≡ q + l → t ≤ more_limit → on before t ≡ true
 step_counted base behind before p q l t longer e k same most =

@@ -31,9 +31,13 @@ or_onward : {r s : Rel} → Onward r → Onward s → Onward (Or r s)
 or_onward f g p q n (inl h) = f p q n h
 or_onward f g p q n (inr h) = g p q n h
 
+-- now stays, while the positions change
+onward_at : {r : Rel} (n : ℕ) → Onward r → (p q : ℕ) → Many r p q n → p ≤ q
+onward_at n f p q (stay e low) = omega arith
+onward_at n f p q (link {m = m} step more) = omega (arith, f p m n step, onward_at n f m q more)
+
 pub many_onward : {r : Rel} → Onward r → Onward (Many r)
-many_onward f p q n (stay e low) = omega arith
-many_onward f p q n (link {m = m} step more) = omega (arith, f p m n step, many_onward f m q n more)
+many_onward f p q n h = onward_at n f p q h
 
 pick_onward : {d : ℕ} {r : ℕ → Rel} → ((k : ℕ) → Onward (r k)) → Onward (Pick d r)
 pick_onward f p q n h = f h.0 p q n h.2
@@ -48,10 +52,13 @@ or_movable : {r s : Rel} → Movable r → Movable s → Movable (Or r s)
 or_movable f g p q n k (inl h) l = inl (f p q n k h l)
 or_movable f g p q n k (inr h) l = inr (g p q n k h l)
 
+movable_at : {r : Rel} (n k : ℕ) → Onward r → Movable r → (p q : ℕ) → Many r p q n → q ≤ k → Many r p q k
+movable_at n k up f p q (stay e low) l = stay e (omega arith)
+movable_at n k up f p q (link {m = m} step more) l =
+    link (f p m n k step (omega (arith, many_onward up m q n more))) (movable_at n k up f m q more l)
+
 many_movable : {r : Rel} → Onward r → Movable r → Movable (Many r)
-many_movable up f p q n k (stay e low) l = stay e (omega arith)
-many_movable up f p q n k (link {m = m} step more) l =
-    link (f p m n k step (omega (arith, many_onward up m q n more))) (many_movable up f m q n k more l)
+many_movable up f p q n k h l = movable_at n k up f p q h l
 
 pick_movable : {d : ℕ} {r : ℕ → Rel} → ((k : ℕ) → Movable (r k)) → Movable (Pick d r)
 pick_movable f p q n j h l = (h.0, h.1, f h.0 p q n j h.2 l)

@@ -12,6 +12,7 @@ use Rattle.meaning.specs.Refusal.{Row, ◌when◌, FirstHolding, Refused, Accept
 
 -- the first row that holds is one
 first_unique : (rows : List {1} Row) (n m : ℕ) → FirstHolding rows n → FirstHolding rows m → n ≡ m
+first_unique [] n m h k = elim h [ ]
 first_unique (row ∷ rows) n m (inl h) (inl k) = h.0 ∙ sym k.0
 first_unique (row ∷ rows) n m (inl h) (inr k) = absurd (k.0 h.1)
 first_unique (row ∷ rows) n m (inr h) (inl k) = absurd (h.0 k.1)
@@ -22,6 +23,7 @@ refused_unique {rows} {N} {M} r s = first_unique rows N M r.first s.first
 
 -- a call refuses or accepts, never both
 not_both : (rows : List {1} Row) (n : ℕ) → FirstHolding rows n → Accepted rows → ⊥
+not_both [] n h a = elim h [ ]
 not_both (row ∷ rows) n (inl h) a = a.0 h.1
 not_both (row ∷ rows) n (inr h) a = not_both rows n h.1 a.1
 
@@ -56,6 +58,7 @@ not_rest a = a.1
 
 -- Two lists, one after the other: where the first refuses, its number stands; where it accepts, the second decides.
 first_in : (xs ys : List {1} Row) (n : ℕ) → FirstHolding xs n → FirstHolding (xs ++ ys) n
+first_in [] ys n h = elim h [ ]
 first_in (row ∷ xs) ys n (inl h) = inl h
 first_in (row ∷ xs) ys n (inr h) = inr (h.0, first_in xs ys n h.1)
 
@@ -130,12 +133,14 @@ no_fall true fall xs e = (refl, e)
 no_fall false fall xs e = absurd (cons≢nil e)
 
 rising : (b k : ℕ) (rows : List {1} Row) → falls_from b rows ≡ [] → Applies rows k → b ≤ k
+rising b k [] e a = elim a [ ]
 rising b k (row ∷ rows) e a =
     let up = no_fall (leb b row.number) (b, row.number) (falls_from row.number rows) e in
     let low : b ≤ row.number = leb→le b row.number (subst (λ x. T x) (sym up.0) tt) in
     ⊎_elim (λ h. omega (arith, low, h.0)) (λ h. omega (arith, low, rising row.number k rows up.1 h)) a
 
 smallest : (b n k : ℕ) (rows : List {1} Row) → falls_from b rows ≡ [] → FirstHolding rows n → Applies rows k → n ≤ k
+smallest b n k [] e h a = elim h [ ]
 smallest b n k (row ∷ rows) e (inl h) a =
     let up = no_fall (leb b row.number) (b, row.number) (falls_from row.number rows) e in
     ⊎_elim (λ j. omega (arith, h.0, j.0)) (λ j. omega (arith, h.0, rising row.number k rows up.1 j)) a
