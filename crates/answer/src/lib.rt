@@ -21,7 +21,7 @@ use theory::STRIDE;
 pub const ANSWER_ROOM: usize = 64;
 
 // What a sheet is told: refused, with number and line; or verdict and last state, and how many actions the first finishing sequence has, if there is one.
-#[derive(Drop)]
+#[derive(Clone, Copy)]
 pub enum Said {
     Refused(Fault),
     Unfinished { yes: bool, state: u32 },
@@ -29,7 +29,7 @@ pub enum Said {
 }
 
 // The outcome of a sheet. The sequence stands at the front of `ending`; every other place of it is 0.
-#[derive(Drop)]
+#[derive(Clone, Copy)]
 pub struct Outcome {
     pub said: Said,
     pub ending: [u8; MORE_LIMIT],

@@ -23,7 +23,7 @@ use tables::{ROWS, transpose};
 use theory::{Check, Setting};
 
 // What `reach` answers: the set of positions with bit q for position q, their count and the earliest.
-#[derive(Drop)]
+#[derive(Clone, Copy)]
 pub enum ReachAnswer {
     Refused(Refusal),
     Reached {
@@ -34,7 +34,7 @@ pub enum ReachAnswer {
 }
 
 // What `verdict` answers.
-#[derive(Drop)]
+#[derive(Clone, Copy)]
 pub enum VerdictAnswer {
     Refused(Refusal),
     Yes,

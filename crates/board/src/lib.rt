@@ -15,7 +15,7 @@ use theory::{Check, Setting};
 pub const TEST_LIMIT: usize = 64;
 
 // What the call answers: a refusal, or how many tests were told.
-#[derive(Drop)]
+#[derive(Clone, Copy)]
 pub enum BoardAnswer {
     Refused(Refusal),
     Told(usize),

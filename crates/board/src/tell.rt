@@ -16,7 +16,7 @@ const YES: u8 = 1;
 const REFUSED: u8 = 16;
 
 // What a test is told, and where the next one stands.
-#[derive(Drop)]
+#[derive(Clone, Copy)]
 struct Told {
     byte: u8,
     next: usize,

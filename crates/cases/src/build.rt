@@ -5,7 +5,7 @@ ghost use Rattle.io.specs.Counts.{IsPrefixLen};
 use crate::lines::{behind_mark, line_end, next_line};
 
 // The sheet so far; a line of the number asked for stood in the row; the sheet ends here.
-#[derive(Drop)]
+#[derive(Clone, Copy)]
 pub struct Built {
     pub n: usize,
     pub found: bool,

@@ -21,7 +21,7 @@ use tables::ROWS;
 use theory::ACTION_LIMIT;
 
 // What a pass over a walk finds: the positions that it leads to, and the actions that it asks for, bit a for action a.
-#[derive(Drop)]
+#[derive(Clone, Copy)]
 pub struct Pass {
     pub reached: PositionSet,
     pub asked: u64,

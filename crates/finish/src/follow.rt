@@ -17,7 +17,7 @@ use theory::{STRIDE, Setting, log};
 const ALL: u8 = 127;
 
 // The fluents that can be on, and those that can be off, in a state or in any to which actions lead from it.
-#[derive(Drop)]
+#[derive(Clone, Copy)]
 pub struct Turning {
     pub ons: u32,
     pub offs: u32,

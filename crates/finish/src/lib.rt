@@ -25,14 +25,14 @@ use theory::{Check, Setting};
 pub const MORE_LIMIT: usize = 6;
 
 // What the call answers: a refusal, or how many actions the sequence has that was written.
-#[derive(Drop)]
+#[derive(Clone, Copy)]
 pub enum FinishAnswer {
     Refused(Refusal),
     Written(usize),
 }
 
 // What the call `next` answers: a refusal, or the actions that may come next, bit a for action a.
-#[derive(Drop)]
+#[derive(Clone, Copy)]
 pub enum NextAnswer {
     Refused(Refusal),
     Actions(u64),

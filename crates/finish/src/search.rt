@@ -18,7 +18,7 @@ use tables::{ROWS, toggle, transpose};
 use theory::{Setting, log, step};
 
 // How many actions the first finishing sequence has.
-#[derive(Drop)]
+#[derive(Clone, Copy)]
 pub enum Found {
     At(usize),
     Nothing,

@@ -2,7 +2,7 @@
 ghost use Rattle.grammar.specs.Letters.{LetterAt};
 
 // What stands at a place: the letter of a variable, by its place among `v`, `w`, `x`, `y`, from 0 on; or none.
-#[derive(Drop)]
+#[derive(Clone, Copy)]
 pub enum Letter {
     Place(u8),
     Other,

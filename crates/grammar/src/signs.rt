@@ -3,7 +3,7 @@ ghost use Rattle.std.specs.Prelude.{◌≡◌, ◌≤◌, ◌<◌};
 ghost use Rattle.grammar.specs.Signs.{sign_meant, turns_back};
 
 // A byte as a sign, by what follows it: seven of a walk, seven of a test. No byte is a sign of both, and a variable's letter is none.
-#[derive(Drop)]
+#[derive(Clone, Copy)]
 pub enum Sign {
     // n, u
     Step,

@@ -13,7 +13,7 @@ use rule::{Kind, check_rule};
 use theory::{Check, Counts};
 
 // What a call answers: a refusal, or how many bytes it wrote.
-#[derive(Drop)]
+#[derive(Clone, Copy)]
 pub enum NormalAnswer {
     Refused(Refusal),
     Written(usize),

@@ -9,7 +9,7 @@ use grammar::ends::{ENDS_ROOM, second};
 use grammar::signs::{Sign, sign_of};
 
 // Two parts of a sign, in the order in which they are written.
-#[derive(Drop)]
+#[derive(Clone, Copy)]
 pub struct Parts {
     pub first: usize,
     pub second: usize,

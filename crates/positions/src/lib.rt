@@ -6,7 +6,7 @@ ghost use Rattle.meaning.specs.Reach.{count_of, earliest_of, SetWord};
 ghost use Rattle.positions.specs.Positions.{holds, Empty, Inside};
 
 // Bit q of the word is position q.
-#[derive(Drop)]
+#[derive(Clone, Copy)]
 pub struct PositionSet {
     word: u64,
 }

@@ -11,7 +11,7 @@ use spelling::Digits;
 // What is told of a rule: where it ends, its depth, how many actions and fluents a theory must have to know all that it names, whether a backward sign stands
 // outside every `<` walk, which variables stand free (a bit each, `v` the lowest), and whether a sign of variables stands in it. A byte each: no text is
 // longer than 255, and each call of the readers holds several.
-#[derive(Drop)]
+#[derive(Clone, Copy)]
 pub struct Facts {
     pub end: u8,
     pub depth: u8,
@@ -23,7 +23,7 @@ pub struct Facts {
 }
 
 // What a reader answers: no rule of its kind stands there, or the facts of the one that does.
-#[derive(Drop)]
+#[derive(Clone, Copy)]
 pub enum Read {
     Refused,
     Found(Facts),

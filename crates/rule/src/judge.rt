@@ -16,7 +16,7 @@ use theory::Counts;
 use theory::faults::bad_counts;
 
 // What a rule is found to be: refused, or fit, with its facts.
-#[derive(Drop)]
+#[derive(Clone, Copy)]
 pub enum Surveyed {
     Refused(Refusal),
     Fits(Facts),

@@ -12,7 +12,7 @@ use judge::Surveyed;
 use theory::{Check, Counts};
 
 // "A rule is used as a *test*, as a *walk* (questions only) or as a *job* (a walk to be carried out)."
-#[derive(Drop)]
+#[derive(Clone, Copy)]
 pub enum Kind {
     Test,
     Walk,

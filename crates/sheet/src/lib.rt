@@ -14,21 +14,21 @@ use sheet_lines::{Cursor, Fault, LineAnswer, Stretch, Version};
 use theory::{ACTION_LIMIT, STRIDE, Setting};
 
 // What the lines down to the start state say, with the cursor of the last of them.
-#[derive(Drop)]
+#[derive(Clone, Copy)]
 struct Head {
     pub version: Version,
     pub setting: Setting,
     pub last: Cursor,
 }
 
-#[derive(Drop)]
+#[derive(Clone, Copy)]
 enum HeadAnswer {
     Faulty(Fault),
     Read(Head),
 }
 
 // What an accepted sheet says, but for the masks and the steps of the log, which go to lent memory: how many steps there are, and where the rules stand.
-#[derive(Drop)]
+#[derive(Clone, Copy)]
 pub struct Parsed {
     pub setting: Setting,
     pub steps: usize,
@@ -37,7 +37,7 @@ pub struct Parsed {
     pub more: usize,
 }
 
-#[derive(Drop)]
+#[derive(Clone, Copy)]
 pub enum SheetAnswer {
     Faulty(Fault),
     Read(Parsed),

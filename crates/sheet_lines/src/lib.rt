@@ -12,7 +12,7 @@ use refusal::Refusal;
 
 // A version of the sheet: whether a line says how many values a variable has, how many masks an action's line has, how many steps its log may have, and whether a line
 // says how a test inside a walk is read.
-#[derive(Drop)]
+#[derive(Clone, Copy)]
 pub struct Version {
     pub valued: bool,
     pub masks: usize,
@@ -21,14 +21,14 @@ pub struct Version {
 }
 
 // A refused line: why, and its number from 1.
-#[derive(Drop)]
+#[derive(Clone, Copy)]
 pub struct Fault {
     pub refusal: Refusal,
     pub line: usize,
 }
 
 // An accepted line: its number from 1, the place where its value starts, the place of its LF, and the number that it says, 0 where it says none.
-#[derive(Drop)]
+#[derive(Clone, Copy)]
 pub struct Cursor {
     pub line: usize,
     pub start: usize,
@@ -37,14 +37,14 @@ pub struct Cursor {
 }
 
 // What reading one line answers.
-#[derive(Drop)]
+#[derive(Clone, Copy)]
 pub enum LineAnswer {
     Faulty(Fault),
     Next(Cursor),
 }
 
 // A stretch of the sheet: from this place up to that one.
-#[derive(Drop)]
+#[derive(Clone, Copy)]
 pub struct Stretch {
     pub start: usize,
     pub end: usize,

@@ -10,7 +10,7 @@ use positions::PositionSet;
 use steps::letters::VARS;
 
 // Positions that have one now, and that now.
-#[derive(Drop)]
+#[derive(Clone, Copy)]
 pub struct Turn {
     pub own: usize,
     pub these: PositionSet,

@@ -4,7 +4,7 @@ pub mod scan; // scan.rt: reads digits, numbers, a key, the end of a line
 pub mod put; // put.rt: writes texts, numbers and actions into lent output
 
 // What a run of digits is.
-#[derive(Drop)]
+#[derive(Clone, Copy)]
 pub enum Digits {
     Number(u32),
     Other,

@@ -12,7 +12,7 @@ use theory::{ACTION_LIMIT, Check, Counts, Setting, faults};
 
 // The record that the scheduler lends. Any bytes are a record; one that the library did not make is taken by its fields as they stand.
 #[repr(C)]
-#[derive(Drop)]
+#[derive(Clone, Copy)]
 pub struct Tally {
     // how often each action was taken, and the position after its last time
     pub counts: [u8; ACTION_LIMIT],
@@ -25,14 +25,14 @@ pub struct Tally {
 }
 
 // The record after a call, and the refusal's number, 0 for none.
-#[derive(Drop)]
+#[derive(Clone, Copy)]
 pub struct Left {
     pub tally: Tally,
     pub refusal: u8,
 }
 
 // What the call `happened` answers.
-#[derive(Drop)]
+#[derive(Clone, Copy)]
 pub enum HappenedAnswer {
     Refused(Refusal),
     Yes,

@@ -29,7 +29,7 @@ pub const READING_LIMIT: usize = 1;
 
 // How many fluents and actions a theory has, and how many values a variable: what a rule is read against. A struct, so that they are told apart by their
 // names. A domain of 0 is a call without variables.
-#[derive(Drop)]
+#[derive(Clone, Copy)]
 pub struct Counts {
     pub fluents: usize,
     pub actions: usize,
@@ -37,7 +37,7 @@ pub struct Counts {
 }
 
 // What a call is asked of, but for its mask table and its log: plain numbers, by value.
-#[derive(Drop)]
+#[derive(Clone, Copy)]
 pub struct Setting {
     pub counts: Counts,
     pub start: u32,
@@ -45,21 +45,21 @@ pub struct Setting {
 }
 
 // What a check finds: the refusal that comes first, or none.
-#[derive(Drop)]
+#[derive(Clone, Copy)]
 pub enum Check {
     Sound,
     Refused(Refusal),
 }
 
 // What the call `state` answers.
-#[derive(Drop)]
+#[derive(Clone, Copy)]
 pub enum StateAnswer {
     Refused(Refusal),
     State(u32),
 }
 
 // What the call `possible` answers.
-#[derive(Drop)]
+#[derive(Clone, Copy)]
 pub enum PossibleAnswer {
     Refused(Refusal),
     Yes,

@@ -27,7 +27,7 @@ pub fn able(masks: &[u32], a: usize, state: u32) -> bool
 }
 
 // What a clause does in a state.
-#[derive(Drop)]
+#[derive(Clone, Copy)]
 struct Effect {
     put: u32,
     drop: u32,
