@@ -2,23 +2,15 @@
 use mathlib.Core.Path.{ap}
 use mathlib.Core.Bool.{not}
 use Prim.Native.Nat.{ℕ, ◌/◌, ◌^◌}
-use borrow.Author.Rules.{rules}
 use borrow.Author.Tests.{eqb-false, ne_eqb, not-true}
 use lib.Dec.{eqb}
 use Rattle.theory.proofs.Lacking.{lacking_iff}
-use Rattle.theory.proofs.faults.names_lacking.Statement.{statement}
-use Rattle.theory.proofs.faults.names_lacking.Tie as tie
+use Rattle.theory.proofs.faults.names_lacking.Goals as goal
 
-shr-beyond : tie.Need-overflow-shr-beyond
-shr-beyond c = search rules
-
-returns : tie.Need-returns
+pub returns : goal.returns
 returns c =
     let rest : ℕ = c.args.mask / 2 ^ c.args.fluents in
     let lacking = lacking_iff 32 c.args.fluents c.ranges.mask.fits in (
       λ e. lacking.0 (eqb-false rest 0 (not-true (eqb rest 0) e)),
       λ l. ap not (ne_eqb rest 0 (lacking.1 l)),
     )
-
-pub names-lacking-spec : {M : Type 1} → statement M
-names-lacking-spec = tie.close (tie.spec shr-beyond returns)

@@ -4,7 +4,6 @@ use mathlib.Core.List.{[], ◌∷◌, ◌++◌}
 use Prim.Native.Nat.{ℕ, ◌-◌, ◌/◌, ◌<◌}
 use native.Mathlib.Nat.{mod-lt}
 use native.Mathlib.Omega.{arith}
-use borrow.Author.Rules.{rules}
 use borrow.Fn.Kinds.{In}
 use borrow.Fn.PlainCycle.{Measures, is, falls, and}
 use Rattle.spelling.specs.Numeral.{numeral}
@@ -17,7 +16,8 @@ use Rattle.spelling.proofs.put.+number.Lts-number as number-lts
 use Rattle.spelling.proofs.put.byte.Reads as byte
 use Rattle.spelling.proofs.put.symbol.Reads as symbol
 use Rattle.spelling.proofs.put.+number.{statement}
-use Rattle.spelling.proofs.put.+number.Tie.{close}
+use borrow.Author.Rules.{rules}
+use Rattle.spelling.proofs.put.+number.Goals as goal
 
 abbrev μ : Measures 1 number-kinds.ps ℕ
 μ κs a = a.1.1.1.0
@@ -70,18 +70,3 @@ returns-2 t c =
     wrote_as
     (ap (λ d. numeral a.base (a.width - 1) (a.n / a.base) ++ (d ∷ [])) shown.symbol.ensures ∙ last_digit a.base a.width a.n tested.if1.false)
     (wrote_then called.number.ensures c.before.before.byte.ensures)
-
-pub +number-spec : {M : Type 1} → statement M
-+number-spec = close μ λ t. number-lts.spec
-    (calls t)
-    (at t)
-    number.Post
-    (returns t)
-    (div-number t)
-    (sub_number t)
-    (number-requires t)
-    (rem-symbol t)
-    (symbol-requires t)
-    (byte-requires t)
-    (same_length t)
-    (returns-2 t)

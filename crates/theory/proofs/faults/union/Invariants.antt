@@ -1,0 +1,14 @@
+-- `theory::faults::union` meets its contract. The loop's invariant: the mask so far names what the first i masks name.
+use mathlib.Core.Path.{◌≡◌, subst}
+use Prim.Native.Nat.{ℕ, ◌≤◌, ◌-◌}
+use native.Mathlib.Omega.{arith}
+use lib.ListN.{length}
+use Rattle.theory.specs.Union.{Union}
+use Rattle.theory.proofs.Lacking.{union_none, union_more}
+use Rattle.theory.proofs.faults.union.Given as goal
+
+abbrev pub invariant-loop-i : goal.invariant-loop-i
+invariant-loop-i l = (l.i ≤ length l.masks) × Union l.masks l.i l.all
+
+abbrev pub decreases-loop-i : goal.decreases-loop-i
+decreases-loop-i l = length l.masks - l.i

@@ -1,0 +1,19 @@
+-- `theory::log::state_at` meets its contract. The loop's invariant: the state is that at position i.
+use mathlib.Core.Path.{◌≡◌, sym, ◌∙◌, ap}
+use mathlib.Core.List.{List}
+use Prim.Native.Nat.{ℕ, ◌≤◌, ◌-◌}
+use native.Mathlib.Omega.{arith}
+use Rattle.meaning.specs.Theory.{World, after, state_before}
+use Rattle.meaning.proofs.Theory.{state_start, state_step}
+use Rattle.theory.specs.Subject.{setting_of, subject_of, world_of}
+use Rattle.theory.proofs.log.state_at.Given as goal
+
+-- the world as far as a state depends on it: the counts do not matter
+abbrev pub world : ℕ → List ℕ → List ℕ → World
+world start masks log = world_of (subject_of (setting_of 0 0 0 start 0) masks log)
+
+abbrev pub invariant-loop-i : goal.invariant-loop-i
+invariant-loop-i l = (l.i ≤ l.p) × (l.state ≡ state_before (world l.initial.state l.masks l.log) l.i)
+
+abbrev pub decreases-loop-i : goal.decreases-loop-i
+decreases-loop-i l = l.p - l.i
