@@ -269,6 +269,42 @@ NoTest SumFluent = ⊥
 NoTest SomeTest = ⊥
 NoTest Stranger = Unit {0}
 
+-- a sign that no arm of a walk's reader takes begins no walk
+pub no_walk : (s : Sign) → (s ≡ Step → ⊥) → (s ≡ NamedStep → ⊥) → (s ≡ OverWalk → ⊥) → (s ≡ OverTest → ⊥) → (s ≡ TwoWalks → ⊥) → (s ≡ SumStep → ⊥) → (s ≡ SomeWalk → ⊥) → NoWalk s
+no_walk Step n _ _ _ _ _ _ = absurd (n refl)
+no_walk NamedStep _ n _ _ _ _ _ = absurd (n refl)
+no_walk OverWalk _ _ n _ _ _ _ = absurd (n refl)
+no_walk OverTest _ _ _ n _ _ _ = absurd (n refl)
+no_walk TwoWalks _ _ _ _ n _ _ = absurd (n refl)
+no_walk Constant _ _ _ _ _ _ _ = tt
+no_walk NamedFluent _ _ _ _ _ _ _ = tt
+no_walk Denial _ _ _ _ _ _ _ = tt
+no_walk TwoTests _ _ _ _ _ _ _ = tt
+no_walk WalkThenTest _ _ _ _ _ _ _ = tt
+no_walk SumStep _ _ _ _ _ n _ = absurd (n refl)
+no_walk SomeWalk _ _ _ _ _ _ n = absurd (n refl)
+no_walk SumFluent _ _ _ _ _ _ _ = tt
+no_walk SomeTest _ _ _ _ _ _ _ = tt
+no_walk Stranger _ _ _ _ _ _ _ = tt
+
+-- a sign that no arm of a test's reader takes begins no test
+pub no_test : (s : Sign) → (s ≡ Constant → ⊥) → (s ≡ NamedFluent → ⊥) → (s ≡ Denial → ⊥) → (s ≡ TwoTests → ⊥) → (s ≡ WalkThenTest → ⊥) → (s ≡ SumFluent → ⊥) → (s ≡ SomeTest → ⊥) → NoTest s
+no_test Step _ _ _ _ _ _ _ = tt
+no_test NamedStep _ _ _ _ _ _ _ = tt
+no_test OverWalk _ _ _ _ _ _ _ = tt
+no_test OverTest _ _ _ _ _ _ _ = tt
+no_test TwoWalks _ _ _ _ _ _ _ = tt
+no_test Constant n _ _ _ _ _ _ = absurd (n refl)
+no_test NamedFluent _ n _ _ _ _ _ = absurd (n refl)
+no_test Denial _ _ n _ _ _ _ = absurd (n refl)
+no_test TwoTests _ _ _ n _ _ _ = absurd (n refl)
+no_test WalkThenTest _ _ _ _ n _ _ = absurd (n refl)
+no_test SumStep _ _ _ _ _ _ _ = tt
+no_test SomeWalk _ _ _ _ _ _ _ = tt
+no_test SumFluent _ _ _ _ _ n _ = absurd (n refl)
+no_test SomeTest _ _ _ _ _ _ n = absurd (n refl)
+no_test Stranger _ _ _ _ _ _ _ = tt
+
 unread_as_walk : {b : ℕ} {s : Sign} → SignIs b s → NoWalk s → walk_sign b ≡ none
 unread_as_walk act_sign n = absurd n
 unread_as_walk undo_sign n = absurd n

@@ -39,6 +39,7 @@ Alike (r ∷ rs) [] = ⊥
 Alike (r ∷ rs) (s ∷ ss) = (r.number ≡ s.number) × (r.given ↔ s.given) × Alike rs ss
 
 alike_first : (rs ss : List {1} Row) (n : ℕ) → Alike rs ss → FirstHolding rs n → FirstHolding ss n
+alike_first [] ss n e h = elim h [ ]
 alike_first (r ∷ rs) [] n e h = absurd e
 alike_first (r ∷ rs) (s ∷ ss) n e (inl h) = inl (h.0 ∙ e.0, e.1.0 h.1)
 alike_first (r ∷ rs) (s ∷ ss) n e (inr h) = inr (λ g. h.0 (e.1.1 g), alike_first rs ss n e.2 h.1)

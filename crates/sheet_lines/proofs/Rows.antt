@@ -94,6 +94,7 @@ clean_by (judge ∷ judges) said accepted = (not_first accepted, clean_by judges
 module _ (form : Form) (bytes : List ℕ) (at : ℕ) (clear : Clear form) (said : form.Value) (says : Says form bytes at said) where
   to_line :
       (judges : List {1} (Judge form.Value)) (N : ℕ) → FirstHolding (value_rows judges said) N → FirstHolding (judge_rows form bytes at judges) N
+  to_line [] N h = elim h [ ]
   to_line (judge ∷ judges) N (inl h) = inl (h.0, record { said = said; says = says; fault = h.1 })
   to_line (judge ∷ judges) N (inr h) =
       inr (λ b. h.0 (subst judge.bad (one_said form bytes at clear b.said said b.says says) b.fault), to_line judges N h.1)
