@@ -1,8 +1,6 @@
 -- `standins::decisive` meets its contract. The loop's invariant: the word holds the fluents of the actions gone over.
 use mathlib.Core.Path.{◌≡◌}
-use Prim.Native.Nat.{◌-◌, ◌≤◌}
 use native.Mathlib.Omega.{arith}
-use Rattle.standins.specs.Worth.{Decisive}
 use Rattle.standins.proofs.Words.{decisive_none, decisive_more}
 use Rattle.standins.proofs.decisive.Goals as goal
 

@@ -1,10 +1,7 @@
 -- `standins::named` meets its contract. The loop's invariant: the word holds the numbers of the places gone over.
-use mathlib.Core.Path.{◌≡◌}
 use Prim.Native.Nat.{◌-◌, ◌≤◌}
-use native.Mathlib.Omega.{arith}
 use lib.ListN.{length}
 use Rattle.standins.specs.Worth.{Named}
-use Rattle.standins.proofs.Words.{named_none, named_more}
 use Rattle.standins.proofs.named.Given as goal
 
 abbrev pub invariant-loop-at : goal.invariant-loop-at

@@ -1,13 +1,6 @@
 -- `standins::sifted` meets its contract. The loop's invariant: of the actions gone over, those that have a stand-in are left out, and no other is.
-use mathlib.Core.Path.{◌≡◌}
-use mathlib.Core.Logic.{⊎_elim}
-use Prim.Native.Nat.{◌-◌, ◌≤◌, ◌<◌}
-use native.Mathlib.Omega.{arith}
-use Rattle.laws.proofs.Truth.{off_on}
-use Rattle.meaning.specs.Limits.{action_limit}
+use Prim.Native.Nat.{◌-◌, ◌≤◌}
 use Rattle.standins.specs.Worth.{others, Sifted}
-use Rattle.standins.proofs.Words.{bit_on, bit_off}
-use Rattle.standins.proofs.Sifting.{sifted_none, sifted_kept, sifted_out, like_stands, stands_like}
 use Rattle.standins.proofs.sifted.Given as goal
 
 abbrev pub invariant-loop-b : goal.invariant-loop-b

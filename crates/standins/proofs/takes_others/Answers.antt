@@ -1,14 +1,12 @@
 -- `standins::takes_others` meets its contract. The loop's invariant: no sum stands in the places gone over, and the flag says whether a sign there takes any action.
 use mathlib.Core.Path.{◌≡◌}
-use mathlib.Core.Logic.{⊎_elim}
 use mathlib.Core.Bool.{false≢true}
-use Prim.Native.Nat.{◌-◌, ◌≤◌}
 use native.Mathlib.Omega.{arith}
 use lib.ListN.{length}
 use Rattle.laws.proofs.Truth.{off_on}
-use Rattle.standins.specs.Worth.{Unsummed}
-use Rattle.standins.proofs.Words.{Flagged, unsummed_none, unsummed_more, flag_none, flag_set, flag_kept}
+use Rattle.standins.proofs.Words.{unsummed_none, unsummed_more, flag_none, flag_set, flag_kept}
 use Rattle.standins.proofs.takes_others.Goals as goal
+use Rattle.standins.proofs.takes_others.Goals.{then-sign-eq110, else-sign-eq110}
 
 pub loop-at-init : goal.loop-at-init
 loop-at-init c = (omega arith, unsummed_none _, flag_none c.args.job.now)
@@ -24,7 +22,10 @@ loop-at-preserved c =
     let k = c.loop-at in (
       omega arith,
       unsummed_more job k.at (λ h. off_on c.if-sum.false (c.sum.ensures.1 h)) k.invariant.1,
-      ⊎_elim (λ w. rw w.1 (flag_set job k.at w.0.taken)) (λ w. rw w.1 (flag_kept job k.any k.at w.0.left k.invariant.2)) c.if-sign-eq110.branch,
+      elim c.if-sign-eq110.branch [
+        | then-sign-eq110 w ↦ rw w.any-is (flag_set job k.at w.if-sign-eq110.true)
+        | else-sign-eq110 w ↦ rw w.any-is (flag_kept job k.any k.at w.if-sign-eq110.false k.invariant.2)
+      ],
     )
 
 pub returns : goal.returns

@@ -1,15 +1,12 @@
 -- `standins::worth` meets its contract: all actions, or those that are not sifted out.
-use mathlib.Core.Path.{refl}
-use mathlib.Core.Bool.{true}
-use borrow.Author.Tests.{not-true}
-use Rattle.laws.proofs.Truth.{off_on, implies_iff}
+use Rattle.laws.proofs.Truth.{off_on}
 use Rattle.standins.proofs.Sifting.{all_worth, sifted_worth}
 use Rattle.standins.proofs.worth.Goals as goal
 
 pub returns-then-not-takes_others : goal.returns-then-not-takes_others
 returns-then-not-takes_others c =
     let a = c.args in
-    all_worth a.actions a.masks.now a.job.now (λ h. off_on (not-true _ c.if-not-takes_others.true) (c.takes_others.ensures.1 h))
+    all_worth a.actions a.masks.now a.job.now (λ h. off_on c.if-not-takes_others.true (c.takes_others.ensures.1 h))
 
 pub returns : goal.returns
 returns c =
@@ -18,6 +15,6 @@ returns c =
     let labels = c.named-labels in
     let fluents = c.named-fluents in
     let tested = c.wide-tested in
-    let job = takes.ensures.0 ((implies_iff true takes.result).0 c.if-not-takes_others.false refl) in
+    let job = takes.ensures.0 c.if-not-takes_others.false in
     sifted_worth a.actions a.masks.now a.job.now labels.result fluents.result tested.result c.sifted.result job.0 job.1
     (record { acts = labels.ensures; shows = fluents.ensures; decides = rw tested.ensures c.decisive-decide.ensures }) c.sifted.ensures
