@@ -61,12 +61,12 @@ closed_none ons offs at (act a) = tt
 closed_none ons offs at (undo a) = tt
 closed_none ons offs at next = tt
 closed_none ons offs at prev = tt
-closed_none ons offs at (seq v x) = (closed_none ons offs _ v, closed_none ons offs _ x)
-closed_none ons offs at (alt v x) = (closed_none ons offs _ v, closed_none ons offs _ x)
-closed_none ons offs at (star x) = (rw (none_there at) (measured_none ons offs no_lengths _ x), closed_none ons offs _ x)
+closed_none ons offs at (seq v x) = (closed_none ons offs (at + 1) v, closed_none ons offs (at + 1 + length (walk_text v)) x)
+closed_none ons offs at (alt v x) = (closed_none ons offs (at + 1) v, closed_none ons offs (at + 1 + length (walk_text v)) x)
+closed_none ons offs at (star x) = (rw (none_there at) (measured_none ons offs no_lengths _ x), closed_none ons offs (at + 1) x)
 closed_none ons offs at (check t) = tt
 closed_none ons offs at (conv x) = tt
-closed_none ons offs at (pick v x) = closed_none ons offs _ x
+closed_none ons offs at (pick v x) = closed_none ons offs (at + 2) x
 
 -- one place of the table that grows
 pub set_grown : (f : List ℕ) (at b : ℕ) → at < length f → Inside (get_or f at 0) b → Grown f (set f at b)

@@ -17,8 +17,8 @@ use Rattle.finish.specs.declared.search.Found.TheVariants.{At, Nothing}
 use Rattle.finish.specs.declared.FinishAnswer.TheVariants.{Refused, Written}
 
 -- a whole list copied to the front of another
-pub copied : (log blank trail : List ℕ) (n : ℕ) → n ≡ length log → trail ≡ take (length log) log ++ drop (length log) blank → take n trail ≡ log
-copied log blank trail n whole e = rw (e, take-length) (take_at log (drop (length log) blank) n (sym whole))
+pub copied : (log blank trail : List ℕ) (n : ℕ) → n ≡ length log → trail ≡ log ++ drop (length log) blank → take n trail ≡ log
+copied log blank trail n whole e = rw e (take_at log (drop (length log) blank) n (sym whole))
 
 pub ready_first : (actions : ℕ) (masks log job ends trail : List ℕ) (more room n : ℕ) → Wanted actions masks log job more room → Ends job ends → length trail ≡ places
     → n ≡ length log → take n trail ≡ log → Ready actions masks job ends trail n 0

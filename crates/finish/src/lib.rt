@@ -1,6 +1,6 @@
 #![tactic(auto)]
 // The search for the sequence that finishes a job: shorter before longer, then smaller action numbers first. Knows the theory, the log and the job's text.
-ghost use Rattle.std.specs.Prelude.{length};
+ghost use Rattle.std.specs.Prelude.{◌≡◌, ◌≤◌, ◌++◌, length, drop};
 ghost use Rattle.meaning.specs.Refusal.{Accepted};
 ghost use Rattle.theory.specs.Subject.{subject_of};
 ghost use Rattle.finish.specs.Rows.{check_rows};
@@ -38,6 +38,17 @@ pub enum NextAnswer {
     Actions(u64),
 }
 
+// Writes the bytes to the front of the lent part, and tells how many they are.
+fn copy(from: &[u8], to: &mut [u8]) -> usize
+    requires { length from.now ≤ length to.old }
+    ensures many { result ≡ length from.now }
+    ensures bytes { to.new ≡ from.now ++ drop (length from.now) to.old }
+{
+    let many = from.len();
+    to[..many].copy_from_slice(from);
+    many
+}
+
 // The search, once every check is passed: for whoever has passed them.
 pub fn seek(
     s: Setting,
@@ -53,12 +64,12 @@ pub fn seek(
     let mut ends = [0u8; ENDS_ROOM];
     fill_ends(job, &mut ends);
     let mut trail = [0u8; PositionSet::PLACES];
-    let n = bytes::copy(log, &mut trail);
+    let n = copy(log, &mut trail);
     match search::first(s, masks, job, &ends, &mut trail, n, more) {
         Found::Nothing => FinishAnswer::Refused(Refusal::NoFinish),
         Found::At(k) => {
             let end = n + k;
-            bytes::copy(&trail[n..end], out);
+            copy(&trail[n..end], out);
             FinishAnswer::Written(k)
         }
     }

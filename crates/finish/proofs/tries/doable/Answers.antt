@@ -1,0 +1,28 @@
+-- `finish::tries::doable` meets its contract. The loop's invariant: the word holds the possible ones of the actions gone over.
+use mathlib.Core.Path.{◌≡◌}
+use mathlib.Core.Logic.{⊎_elim}
+use Prim.Native.Nat.{◌-◌, ◌≤◌}
+use native.Mathlib.Omega.{arith}
+use Rattle.laws.proofs.Truth.{off_on}
+use Rattle.finish.specs.Found.{Doable}
+use Rattle.finish.proofs.Doable.{doable_none, doable_left, doable_taken}
+use Rattle.finish.proofs.tries.doable.Goals as goal
+use Rattle.finish.proofs.tries.doable.Goals.{then-able, else-able}
+
+pub loop-a-init : goal.loop-a-init
+loop-a-init c = (omega arith, doable_none _ _)
+
+pub loop-a-preserved : goal.loop-a-preserved
+loop-a-preserved c =
+    let a = c.args in
+    let k = c.loop-a in
+    let able = c.able.ensures in (
+      omega arith,
+      elim c.if-able.branch [
+        | then-able w ↦ rw w.asked-is (doable_taken a.masks.now a.state k.a k.asked (omega arith) (able.0 w.if-able.true) k.invariant.1)
+        | else-able w ↦ rw w.asked-is (doable_left a.masks.now a.state k.a k.asked (λ h. off_on w.if-able.false (able.1 h)) k.invariant.1)
+      ],
+    )
+
+pub returns : goal.returns
+returns c = let all : c.loop-a.a ≡ c.args.actions = omega arith in rw (← all) c.loop-a.invariant.1
