@@ -4,7 +4,7 @@ use mathlib.Core.List.{List, ◌++◌}
 use Prim.Native.Nat.{ℕ}
 use native.Mathlib.Omega.{arith}
 use lib.ListN.{length, take, drop, length-drop}
-use lib.Seq.{length-take-le, take_at, take-length}
+use lib.Seq.{length-take-le, take_at}
 use Rattle.refusal.specs.declared.Refusal.{Refusal}
 use Rattle.meaning.specs.Limits.{places}
 use Rattle.meaning.specs.Finish.{First, None}
@@ -41,7 +41,7 @@ module _ (s : Setting) (masks log job trail last : List ℕ) (n more : ℕ) (sam
 
   -- what stands behind the log goes to the front of the output
   pub written_sought : (k : ℕ) (part after : List ℕ) → length last ≡ places → part ≡ take k (drop n last)
-      → after ≡ take (length part) part ++ drop (length part) before → FinishTold s masks job trail n more last (At k)
+      → after ≡ part ++ drop (length part) before → FinishTold s masks job trail n more last (At k)
       → SoughtTold (subject_of s masks log) job more before after (Written k)
   written_sought k part after long e put told = record {
     each = λ x j.
@@ -49,6 +49,6 @@ module _ (s : Setting) (masks log job trail last : List ℕ) (n more : ℕ) (sam
           ending = part;
           first = rw e (subst (λ (l : List ℕ). First (world_of (subject_of s masks l)) x more (take k (drop n last))) same (told.each x j));
           counted = sym (ap length e ∙ length-take-le k (drop n last) (simp length-drop (omega (arith, told.fits.1))));
-          written = rw take-length at put;
+          written = put;
         };
   }

@@ -34,5 +34,4 @@ returns-in-Sound c =
     let subject : Subject = subject_of c.args.s c.args.masks.now c.args.log.now in
     let Checked : Check → Type 0 = Settled (check_rows subject c.args.job.now c.args.more (length c.args.out.now)) in
     let passed : Checked Sound = subst Checked c.in-Sound.is c.check.ensures in
-    let call = c.seek in
-    sought_answered subject c.args.job.now c.args.more c.args.out.now call.new.1.1.1.1.1.0 call.result passed call.ensures
+    sought_answered subject c.args.job.now c.args.more c.args.out.now c.seek.new.out c.seek.result passed c.seek.ensures

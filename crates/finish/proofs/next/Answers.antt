@@ -11,6 +11,7 @@ use Rattle.finish.proofs.Checking.{Job, logged_passed, job_passed, job_is}
 use Rattle.finish.proofs.LeftOut.{begin_come}
 use Rattle.finish.proofs.Filled.{all_allowed}
 use Rattle.finish.proofs.next.Goals as goal
+
 -- ? helper told not at a place
 
 pub coming-requires : goal.coming-requires

@@ -26,13 +26,11 @@ pub first-requires : goal.first-requires
 first-requires c =
     let subject : Subject = subject_of c.args.s c.args.masks.now c.args.log.now in
     let want : Wanted c.args.s.counts.actions c.args.masks.now c.args.log.now c.args.job.now c.args.more (length c.args.out.now) = wanted subject c.args.job.now c.args.more (length c.args.out.now) c.requires in
-    let front : take c.copy-n.result c.copy-n.new.to ≡ c.args.log.now = copied c.args.log.now _ c.copy-n.new.to c.copy-n.result c.copy-n.ensures.0 c.copy-n.ensures.1 in
+    let front : take c.copy-n.result c.copy-n.new.to ≡ c.args.log.now = copied c.args.log.now _ c.copy-n.new.to c.copy-n.result c.copy-n.ensures.many c.copy-n.ensures.bytes in
     let a = c.args in
-    let copy = c.copy-n in
-    let marked = c.fill_ends in
     let w = want in (
-      ready_first a.s.counts.actions a.masks.now a.log.now a.job.now marked.new.1.0 copy.new.1.0 a.more (length a.out.now)
-          copy.result w (ends_told _ _ w.short marked.ensures) copy.auto.1.0 copy.ensures.0 front,
+      ready_first a.s.counts.actions a.masks.now a.log.now a.job.now c.fill_ends.new.ends c.copy-n.new.to a.more (length a.out.now)
+          c.copy-n.result w (ends_told _ _ w.short c.fill_ends.ensures) c.copy-n.auto.to c.copy-n.ensures.many front,
       w.short,
       w.few,
     )
@@ -41,7 +39,7 @@ pub overflow_add-end : goal.overflow_add-end
 overflow_add-end c =
     let Told : Found → Type 0 = let a = c.args in FinishTold a.s a.masks.now a.job.now c.copy-n.new.to c.copy-n.result a.more c.first.new.trail in
     let found : Told (At c.in-At.k) = subst Told c.in-At.is c.first.ensures in
-    omega (arith, found.ranges.1)
+    omega (arith, found.fits.1)
 
 pub slice_bounds-copy-end-in-At : goal.slice_bounds-copy-end-in-At
 slice_bounds-copy-end-in-At c =
@@ -56,11 +54,11 @@ copy-requires c =
     let want : Wanted c.args.s.counts.actions c.args.masks.now c.args.log.now c.args.job.now c.args.more (length c.args.out.now) = wanted subject c.args.job.now c.args.more (length c.args.out.now) c.requires in
     let Told : Found → Type 0 = let a = c.args in FinishTold a.s a.masks.now a.job.now c.copy-n.new.to c.copy-n.result a.more c.first.new.trail in
     let found : Told (At c.in-At.k) = subst Told c.in-At.is c.first.ensures in
-    simp (length-take, length-drop) (omega (arith, found.ranges.0, want.enough))
+    simp (length-take, length-drop) (omega (arith, found.fits.0, want.enough))
 
 pub returns-in-Nothing : goal.returns-in-Nothing
 returns-in-Nothing c =
-    let front : take c.copy-n.result c.copy-n.new.to ≡ c.args.log.now = copied c.args.log.now _ c.copy-n.new.to c.copy-n.result c.copy-n.ensures.0 c.copy-n.ensures.1 in
+    let front : take c.copy-n.result c.copy-n.new.to ≡ c.args.log.now = copied c.args.log.now _ c.copy-n.new.to c.copy-n.result c.copy-n.ensures.many c.copy-n.ensures.bytes in
     let Told : Found → Type 0 = let a = c.args in FinishTold a.s a.masks.now a.job.now c.copy-n.new.to c.copy-n.result a.more c.first.new.trail in
     let a = c.args in
     nothing_sought a.s a.masks.now a.log.now a.job.now c.copy-n.new.to c.first.new.trail
@@ -68,14 +66,14 @@ returns-in-Nothing c =
 
 pub returns-in-At : goal.returns-in-At
 returns-in-At c =
-    let front : take c.copy-n.result c.copy-n.new.to ≡ c.args.log.now = copied c.args.log.now _ c.copy-n.new.to c.copy-n.result c.copy-n.ensures.0 c.copy-n.ensures.1 in
+    let front : take c.copy-n.result c.copy-n.new.to ≡ c.args.log.now = copied c.args.log.now _ c.copy-n.new.to c.copy-n.result c.copy-n.ensures.many c.copy-n.ensures.bytes in
     let Told : Found → Type 0 = let a = c.args in FinishTold a.s a.masks.now a.job.now c.copy-n.new.to c.copy-n.result a.more c.first.new.trail in
     let found : Told (At c.in-At.k) = subst Told c.in-At.is c.first.ensures in
     let long : length c.first.new.trail ≡ places = c.first.auto.trail ∙ c.copy-n.auto.to in
     let a = c.args in
     let n = c.copy-n.result in
-    let k = c.k-1.given.0.0 in
+    let k = c.in-At.k in
     let last = c.first.new.trail in
     let back : n + k - n ≡ k = omega arith in
     written_sought a.s a.masks.now a.log.now a.job.now c.copy-n.new.to last n a.more front a.out.now
-    k (take (n + k - n) (drop n last)) c.copy.new.to long (rw back) c.copy.ensures.1 found
+    k (take (n + k - n) (drop n last)) c.copy.new.to long (rw back) c.copy.ensures.bytes found

@@ -1,10 +1,10 @@
 -- The proof of the cycle of calls {before, rounds} of `finish::follow`: a line for each need, by the laws of Calls (what stands behind a sign), Gained (what the parts'
 -- lengths make) and Rounds (what a round adds). The measure is the text that is left, twice; `rounds` is called at its star's own place, so it has one less.
 use mathlib.Core.Path.{◌≡◌, refl, subst, ◌∙◌}
-use Prim.Native.Nat.{ℕ, ◌-◌, ◌*◌, ◌^◌, ◌<◌}
+use Prim.Native.Nat.{ℕ, ◌^◌, ◌<◌}
 use native.Mathlib.Omega.{arith}
-use lib.Bits.{bit_and, bit_or, or_lt}
-use lib.ListN.{length, get_or, length-set}
+use lib.Bits.{bit_or, or_lt}
+use lib.ListN.{get_or, length-set}
 use Rattle.grammar.proofs.Spread.{within}
 use Rattle.runs.proofs.Calls.{seq_first, seq_second, alt_first, alt_second, star_part, check_part, pick_part}
 use Rattle.finish.proofs.Gained.{sign_inside, act_gained, sum_gained, next_gained, pick_gained, seq_gained, alt_gained, may_gained, never_gained, quiet_gained}
@@ -32,11 +32,10 @@ before-before-middle-requires t c =
     (omega (arith, c.decreases, within c.requires.here.stands, next.0), record { here = next.1; room = c.requires.room })
 
 pub before-before-requires : goal.before-before-requires
-before-before-requires t c =
-    (
-      omega (arith, c.decreases, within c.requires.here.stands),
-      record { here = seq_first c.requires.here c.in-59.is; room = omega (arith, c.requires.room, c.before-middle.auto.follow) },
-    )
+before-before-requires t c = (
+  omega (arith, c.decreases, within c.requires.here.stands),
+  record { here = seq_first c.requires.here c.in-59.is; room = omega (arith, c.requires.room, c.before-middle.auto.follow) },
+)
 
 pub before-second-other-requires-in-124 : goal.before-second-other-requires-in-124
 before-second-other-requires-in-124 t c = (alt_second c.requires.here c.in-124.is).inside
@@ -145,31 +144,27 @@ rounds-loop-new-init t c =
     (refl, rounds_start a.ons a.offs seen refl (omega arith) short, short, unseen_short a.behind seen (omega arith), unseen_apart a.behind seen short)
 
 pub rounds-before-more-requires : goal.rounds-before-more-requires
-rounds-before-more-requires t c =
-    let k = c.loop-new in (
-      omega (arith, c.decreases, within c.requires.0.here.stands),
-      record { here = star_part c.requires.0.here c.requires.1; room = omega (arith, c.requires.0.room, k.invariant.0) },
-    )
+rounds-before-more-requires t c = (
+  omega (arith, c.decreases, within c.requires.0.here.stands),
+  record { here = star_part c.requires.0.here c.requires.1; room = omega (arith, c.requires.0.room, c.loop-new.invariant.0) },
+)
 
 pub rounds-loop-new-smaller : goal.rounds-loop-new-smaller
 rounds-loop-new-smaller t c =
-    let k = c.loop-new in
-    let more : k.seen < bit_or k.seen k.new = round_more k.seen k.new k.invariant.4 (λ none. omega arith) in
-    omega (arith, k.invariant.2)
+    let more : c.loop-new.seen < bit_or c.loop-new.seen c.loop-new.new = round_more c.loop-new.seen c.loop-new.new c.loop-new.invariant.4 (λ none. omega arith) in
+    omega (arith, c.loop-new.invariant.2)
 
 pub rounds-loop-new-preserved : goal.rounds-loop-new-preserved
 rounds-loop-new-preserved t c =
     let a = c.args in
-    let k = c.loop-new in
-    let call = c.before-more in
-    let all = bit_or k.seen k.new in
-    let short : all < 2 ^ 8 = or_lt 8 k.seen k.new k.invariant.2 k.invariant.3 in
-    let small : call.result < 2 ^ 8 = omega (arith, call.type-inv) in (
-      call.auto.1.1.1.1.1.1.0 ∙ k.invariant.0,
-      rounds_more a.ons a.offs k.seen k.new call.result small short k.invariant.1 call.ensures,
+    let all = bit_or c.loop-new.seen c.loop-new.new in
+    let short : all < 2 ^ 8 = or_lt 8 c.loop-new.seen c.loop-new.new c.loop-new.invariant.2 c.loop-new.invariant.3 in
+    let small : c.before-more.result < 2 ^ 8 = omega (arith, c.before-more.type_inv) in (
+      c.before-more.auto.follow ∙ c.loop-new.invariant.0,
+      rounds_more a.ons a.offs c.loop-new.seen c.loop-new.new c.before-more.result small short c.loop-new.invariant.1 c.before-more.ensures,
       short,
-      unseen_short call.result all small,
-      unseen_apart call.result all short,
+      unseen_short c.before-more.result all small,
+      unseen_apart c.before-more.result all short,
     )
 
 pub rounds-bounds-follow-at-2 : goal.rounds-bounds-follow-at-2
@@ -177,13 +172,11 @@ rounds-bounds-follow-at-2 t c = omega (arith, sign_inside c.requires.0, c.loop-n
 
 pub rounds-shape_of-follow : goal.rounds-shape_of-follow
 rounds-shape_of-follow t c =
-    let k = c.loop-new in
-    length-set k.follow c.args.at k.seen ∙ k.invariant.0
+    length-set c.loop-new.follow c.args.at c.loop-new.seen ∙ c.loop-new.invariant.0
 
 pub rounds-returns : goal.rounds-returns
 rounds-returns t c =
     let a = c.args in
-    let k = c.loop-new in
-    let none : k.new ≡ 0 = omega arith in
-    rounds_done a.ons a.offs k.seen c.requires.1 (omega (arith, sign_inside c.requires.0, k.invariant.0))
-    (subst (λ (i : ℕ). Rounds a.text.now a.at a.ons a.offs a.behind a.follow.now k.follow k.seen i) none k.invariant.1)
+    let none : c.loop-new.new ≡ 0 = omega arith in
+    rounds_done a.ons a.offs c.loop-new.seen c.requires.1 (omega (arith, sign_inside c.requires.0, c.loop-new.invariant.0))
+    (subst (λ (i : ℕ). Rounds a.text.now a.at a.ons a.offs a.behind a.follow.now c.loop-new.follow c.loop-new.seen i) none c.loop-new.invariant.1)

@@ -1,14 +1,10 @@
 -- The proof of the cycle of calls {before, rounds} of `finish::follow`: a line for each need, by the laws of Calls (what stands behind a sign), Gained (what the parts'
 -- lengths make) and Rounds (what a round adds). The measure is the text that is left, twice; `rounds` is called at its star's own place, so it has one less.
-use mathlib.Core.Path.{◌≡◌, refl, subst, ◌∙◌}
-use Prim.Native.Nat.{ℕ, ◌-◌, ◌*◌, ◌^◌, ◌<◌}
-use native.Mathlib.Omega.{arith}
-use lib.Bits.{bit_and, bit_or, or_lt}
-use lib.ListN.{length, get_or, length-set}
-use Rattle.grammar.proofs.Spread.{within}
-use Rattle.runs.proofs.Calls.{seq_first, seq_second, alt_first, alt_second, star_part, check_part, pick_part}
-use Rattle.finish.proofs.Gained.{sign_inside, act_gained, sum_gained, next_gained, pick_gained, seq_gained, alt_gained, may_gained, never_gained, quiet_gained}
-use Rattle.finish.proofs.Rounds.{Rounds, unseen_short, unseen_apart, round_more, rounds_start, rounds_more, rounds_done}
+use mathlib.Core.Path.{◌≡◌}
+use Prim.Native.Nat.{◌-◌, ◌*◌, ◌^◌, ◌<◌}
+use lib.Bits.{bit_and}
+use lib.ListN.{length}
+use Rattle.finish.proofs.Rounds.{Rounds}
 use Rattle.finish.proofs.follow.+before_rounds.Given as goal
 
 abbrev pub decreases-before : goal.decreases-before

@@ -1,8 +1,6 @@
 -- `finish::follow::turns` meets its contract. The loop's invariant: so it is for the actions gone over.
-use Prim.Native.Nat.{◌-◌, ◌≤◌}
 use mathlib.Core.Path.{◌≡◌}
 use native.Mathlib.Omega.{arith}
-use Rattle.meaning.specs.Lengths.{Reaching}
 use Rattle.theory.specs.Subject.{table_masks}
 use Rattle.finish.proofs.Turns.{reach_none, reach_more}
 use Rattle.finish.proofs.follow.turns.Goals as goal

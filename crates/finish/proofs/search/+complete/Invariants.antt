@@ -1,18 +1,11 @@
 -- `finish::search::complete` meets its contract: by recursion on how many actions are left. The loop's invariant: the log still stands in front, and no
 -- action gone over has a rest that completes the job.
-use mathlib.Core.Path.{◌≡◌, refl, sym, ◌∙◌}
-use mathlib.Core.Logic.{⊎_elim}
-use mathlib.Core.Bool.{true≢false}
-use Prim.Native.Nat.{ℕ, ◌-◌, ◌≤◌, ◌<◌}
-use native.Mathlib.Omega.{arith}
-use lib.ListN.{length, length-set, take}
-use lib.Seq.{length-take-le}
-use Rattle.theory.specs.Subject.{subject_of, table_masks, world_of}
+use mathlib.Core.Path.{◌≡◌}
+use Prim.Native.Nat.{◌-◌, ◌≤◌}
+use lib.ListN.{length, take}
+use Rattle.theory.specs.Subject.{subject_of, world_of}
 use Rattle.tables.specs.Tables.{Describes}
-use Rattle.finish.specs.Search.{stands}
-use Rattle.meaning.specs.Theory.{Possible}
-use Rattle.standins.proofs.Words.{bit_on, bit_off}
-use Rattle.finish.proofs.Trail.{Passed, tried, guided_more, asked_on, shown_more, shown_less, leaf_told, passed_out, passed_tried, kept_tried, tried_told, none_told, place, ready_more}
+use Rattle.finish.proofs.Trail.{Passed}
 use Rattle.finish.proofs.search.+complete.Given as goal
 
 -- how many actions are left

@@ -2,7 +2,7 @@
 -- shorter sequence completes the job.
 use mathlib.Core.Path.{◌≡◌, refl, sym, subst, ◌∙◌}
 use mathlib.Core.List.{List}
-use Prim.Native.Nat.{ℕ, ◌-◌, ◌+◌, ◌≤◌}
+use Prim.Native.Nat.{ℕ}
 use native.Mathlib.Omega.{arith}
 use lib.ListN.{length, take}
 use lib.Seq.{length-take-le}
@@ -90,15 +90,14 @@ pub complete-requires : goal.complete-requires
 complete-requires c =
     let full : length (take c.args.n c.args.trail.now) ≡ c.args.n = length-take-le c.args.n c.args.trail.now (omega (arith, c.requires.0.room, c.requires.0.fits)) in
     let a = c.args in
-    let k = c.loop-k in
     let w = world_of (subject_of a.s a.masks.now (take a.n a.trail.now)) in
     let longest = c.longest-most.ensures in
     let within = c.loop-k-test.true in (
-      ready_again a.s.counts.actions a.masks.now a.job.now a.ends.now a.trail.now k.trail a.n k.k c.requires.0 k.invariant.2 k.invariant.3
+      ready_again a.s.counts.actions a.masks.now a.job.now a.ends.now a.trail.now c.loop-k.trail a.n c.loop-k.k c.requires.0 c.loop-k.invariant.2 c.loop-k.invariant.3
           (omega (arith, longest, within, c.requires.0.fits)),
-      guided_again a.s a.masks.now a.job.now a.trail.now k.trail _ a.n k.k (omega (arith, longest, within, c.requires.2)) k.invariant.3 c.fill.ensures,
+      guided_again a.s a.masks.now a.job.now a.trail.now c.loop-k.trail _ a.n c.loop-k.k (omega (arith, longest, within, c.requires.2)) c.loop-k.invariant.3 c.fill.ensures,
       worth_spared a.s a.masks.now a.job.now _ c.requires.0.node.logged.table c.worth-worthy.ensures,
-      shown_again a.s a.masks.now a.trail.now k.trail _ a.n c.state_at-state.result full k.invariant.3 k.invariant.5 c.state_at-state.ensures,
+      shown_again a.s a.masks.now a.trail.now c.loop-k.trail _ a.n c.state_at-state.result full c.loop-k.invariant.3 c.loop-k.invariant.5 c.state_at-state.ensures,
     )
 
 pub shape_of-trail-then-complete : goal.shape_of-trail-then-complete
@@ -107,11 +106,9 @@ shape_of-trail-then-complete c = c.complete.auto.trail ∙ c.loop-k.invariant.2
 pub returns-then-complete : goal.returns-then-complete
 returns-then-complete c =
     let a = c.args in
-    let k = c.loop-k in
-    let call = c.complete in
-    at_told a.s a.masks.now a.job.now a.trail.now k.trail call.new.1.1.1.1.1.0 a.n a.more k.k
+    at_told a.s a.masks.now a.job.now a.trail.now c.loop-k.trail c.complete.new.trail a.n a.more c.loop-k.k
     (omega (arith, c.requires.0.room, c.requires.0.fits)) (omega (arith, c.longest-most.ensures, c.loop-k-test.true)) (omega (arith, c.longest-most.ensures, c.loop-k-test.true, c.requires.0.fits))
-    k.invariant.3 k.invariant.4 (rw c.if-complete.true at call.ensures.0)
+    c.loop-k.invariant.3 c.loop-k.invariant.4 (rw c.if-complete.true at c.complete.ensures.0)
 
 pub overflow_add-k : goal.overflow_add-k
 overflow_add-k c = omega (arith, c.longest-most.ensures, c.loop-k-test.true, c.requires.0.fits)
@@ -122,17 +119,15 @@ loop-k-smaller c = omega (arith, c.loop-k-test.true)
 pub loop-k-preserved : goal.loop-k-preserved
 loop-k-preserved c =
     let a = c.args in
-    let k = c.loop-k in
-    let call = c.complete in
-    let last = call.new.1.1.1.1.1.0 in
-    let kept : take a.n last ≡ take a.n k.trail = call.ensures.0.kept in (
+    let last = c.complete.new.trail in
+    let kept : take a.n last ≡ take a.n c.loop-k.trail = c.complete.ensures.0.kept in (
       omega arith,
       omega (arith, c.loop-k-test.true),
-      call.auto.1.1.1.1.1.0 ∙ k.invariant.2,
-      kept ∙ k.invariant.3,
-      fewer_more a.s a.masks.now a.job.now a.trail.now k.trail last a.n k.k k.invariant.3
-          (rw c.if-complete.false at call.ensures.0) k.invariant.4,
-      subst (λ (l : List ℕ). Describes (world_of (subject_of a.s a.masks.now l)) call.new.1.1.1.1.1.1.0) k.invariant.3 (call.ensures.1 c.if-complete.false),
+      c.complete.auto.trail ∙ c.loop-k.invariant.2,
+      kept ∙ c.loop-k.invariant.3,
+      fewer_more a.s a.masks.now a.job.now a.trail.now c.loop-k.trail last a.n c.loop-k.k c.loop-k.invariant.3
+          (rw c.if-complete.false at c.complete.ensures.0) c.loop-k.invariant.4,
+      subst (λ (l : List ℕ). Describes (world_of (subject_of a.s a.masks.now l)) c.complete.new.rows) c.loop-k.invariant.3 (c.complete.ensures.1 c.if-complete.false),
     )
 
 pub shape_of-trail : goal.shape_of-trail
@@ -141,5 +136,4 @@ shape_of-trail c = c.loop-k.invariant.2
 pub returns : goal.returns
 returns c =
     let a = c.args in
-    let k = c.loop-k in
-    nothing_told a.s a.masks.now a.job.now a.trail.now k.trail a.n a.more k.k (omega (arith, c.requires.0.room, c.requires.0.fits)) (omega (arith, c.longest-most.ensures, c.loop-k-test.false)) k.invariant.4
+    nothing_told a.s a.masks.now a.job.now a.trail.now c.loop-k.trail a.n a.more c.loop-k.k (omega (arith, c.requires.0.room, c.requires.0.fits)) (omega (arith, c.longest-most.ensures, c.loop-k-test.false)) c.loop-k.invariant.4

@@ -1,18 +1,11 @@
 -- `finish::search::first` meets its contract: the job as it stands, and then the lengths from 1 up. The loop's invariant: the log still stands in front, its rows are there, and no
 -- shorter sequence completes the job.
-use mathlib.Core.Path.{◌≡◌, refl, sym, subst, ◌∙◌}
-use mathlib.Core.List.{List}
-use Prim.Native.Nat.{ℕ, ◌-◌, ◌+◌, ◌≤◌}
-use native.Mathlib.Omega.{arith}
+use mathlib.Core.Path.{◌≡◌}
+use Prim.Native.Nat.{◌-◌, ◌+◌, ◌≤◌}
 use lib.ListN.{length, take}
-use lib.Seq.{length-take-le}
-use Rattle.theory.specs.Subject.{Readable, subject_of, world_of}
+use Rattle.theory.specs.Subject.{subject_of, world_of}
 use Rattle.tables.specs.Tables.{Describes}
-use Rattle.finish.specs.Found.{LengthTold}
-use Rattle.finish.proofs.Sound.{readable}
-use Rattle.finish.proofs.Stood.{worth_spared}
-use Rattle.finish.proofs.Trail.{leaf_told}
-use Rattle.finish.proofs.Shorter.{Fewer, fewer_none, fewer_more, at_told, nothing_told, ready_again, guided_again, shown_again}
+use Rattle.finish.proofs.Shorter.{Fewer}
 use Rattle.finish.proofs.search.first.Given as goal
 
 abbrev pub invariant-loop-k : goal.invariant-loop-k

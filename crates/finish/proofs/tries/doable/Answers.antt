@@ -1,10 +1,7 @@
 -- `finish::tries::doable` meets its contract. The loop's invariant: the word holds the possible ones of the actions gone over.
 use mathlib.Core.Path.{◌≡◌}
-use mathlib.Core.Logic.{⊎_elim}
-use Prim.Native.Nat.{◌-◌, ◌≤◌}
 use native.Mathlib.Omega.{arith}
 use Rattle.laws.proofs.Truth.{off_on}
-use Rattle.finish.specs.Found.{Doable}
 use Rattle.finish.proofs.Doable.{doable_none, doable_left, doable_taken}
 use Rattle.finish.proofs.tries.doable.Goals as goal
 use Rattle.finish.proofs.tries.doable.Goals.{then-able, else-able}
