@@ -6,7 +6,7 @@ use Prim.Native.Nat.{ℕ, ◌+◌}
 use lib.ListN.{length, get_or}
 use Rattle.meaning.specs.Rule.{Walk, Test, Rule, of_test, of_walk, text}
 use Rattle.grammar.specs.declared.signs.Sign.{Sign}
-use Rattle.grammar.specs.declared.signs.Sign.TheVariants.{TwoWalks, WalkThenTest}
+use Rattle.grammar.specs.declared.signs.Sign.TheVariants.{Step, NamedStep, OverWalk, OverTest, TwoWalks, Constant, NamedFluent, Denial, TwoTests, WalkThenTest, SumStep, SomeWalk, SumFluent, SomeTest, Stranger}
 use Rattle.grammar.specs.Signs.{sign_meant}
 use Rattle.grammar.specs.Standing.{Stands, Ends}
 use Rattle.rule.proofs.Answers.{NoWalk, NoTest}
@@ -51,3 +51,39 @@ walk_test h e (inr n) = absurd (stands_of_test (spread h _ refl) e n)
 -- what is read behind a part stands where the table says that the part ends
 pub behind : {bytes ends : List ℕ} {at : ℕ} {x y : Rule} → Ends bytes ends → Stands bytes at x → Stands bytes (at + length (text x)) y → Stands bytes (get_or ends at 0) y
 behind {bytes} {ends} {at} {x} {y} table h k = subst (λ (i : ℕ). Stands bytes i y) (sym (table.each at x h)) k
+
+-- what no other arm of the walk's rewriter takes is a sign of two walks, or begins no walk
+pub left_to_walks : (s : Sign) → (s ≡ Step → ⊥) → (s ≡ NamedStep → ⊥) → (s ≡ OverWalk → ⊥) → (s ≡ OverTest → ⊥) → (s ≡ SumStep → ⊥) → (s ≡ SomeWalk → ⊥) → (s ≡ TwoWalks) ⊎ NoWalk s
+left_to_walks Step n _ _ _ _ _ = absurd (n refl)
+left_to_walks NamedStep _ n _ _ _ _ = absurd (n refl)
+left_to_walks OverWalk _ _ n _ _ _ = absurd (n refl)
+left_to_walks OverTest _ _ _ n _ _ = absurd (n refl)
+left_to_walks TwoWalks _ _ _ _ _ _ = inl refl
+left_to_walks Constant _ _ _ _ _ _ = inr tt
+left_to_walks NamedFluent _ _ _ _ _ _ = inr tt
+left_to_walks Denial _ _ _ _ _ _ = inr tt
+left_to_walks TwoTests _ _ _ _ _ _ = inr tt
+left_to_walks WalkThenTest _ _ _ _ _ _ = inr tt
+left_to_walks SumStep _ _ _ _ n _ = absurd (n refl)
+left_to_walks SomeWalk _ _ _ _ _ n = absurd (n refl)
+left_to_walks SumFluent _ _ _ _ _ _ = inr tt
+left_to_walks SomeTest _ _ _ _ _ _ = inr tt
+left_to_walks Stranger _ _ _ _ _ _ = inr tt
+
+-- what no other arm of the test's rewriter takes is a `<`, or begins no test
+pub left_to_tests : (s : Sign) → (s ≡ Constant → ⊥) → (s ≡ NamedFluent → ⊥) → (s ≡ Denial → ⊥) → (s ≡ TwoTests → ⊥) → (s ≡ SumFluent → ⊥) → (s ≡ SomeTest → ⊥) → (s ≡ WalkThenTest) ⊎ NoTest s
+left_to_tests Step _ _ _ _ _ _ = inr tt
+left_to_tests NamedStep _ _ _ _ _ _ = inr tt
+left_to_tests OverWalk _ _ _ _ _ _ = inr tt
+left_to_tests OverTest _ _ _ _ _ _ = inr tt
+left_to_tests TwoWalks _ _ _ _ _ _ = inr tt
+left_to_tests Constant n _ _ _ _ _ = absurd (n refl)
+left_to_tests NamedFluent _ n _ _ _ _ = absurd (n refl)
+left_to_tests Denial _ _ n _ _ _ = absurd (n refl)
+left_to_tests TwoTests _ _ _ n _ _ = absurd (n refl)
+left_to_tests WalkThenTest _ _ _ _ _ _ = inl refl
+left_to_tests SumStep _ _ _ _ _ _ = inr tt
+left_to_tests SomeWalk _ _ _ _ _ _ = inr tt
+left_to_tests SumFluent _ _ _ _ n _ = absurd (n refl)
+left_to_tests SomeTest _ _ _ _ _ n = absurd (n refl)
+left_to_tests Stranger _ _ _ _ _ _ = inr tt
