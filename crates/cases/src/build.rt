@@ -1,6 +1,5 @@
 // What a row gives: its sheet, from the table's first lines and the row's own, and its answer. What goes beyond the lent room is left out.
-ghost use Rattle.std.specs.Prelude.{◌≤◌, ◌<◌, length};
-ghost use Rattle.io.specs.Counts.{IsPrefixLen};
+ghost use Rattle.std.specs.Prelude.{◌≡◌, ◌≤◌, ◌<◌, length, take};
 
 use crate::lines::{behind_mark, line_end, next_line};
 
@@ -121,7 +120,7 @@ fn kept(table: &[u8], base: usize, next: usize, k: u8, out: &mut [u8], built: Bu
 // The sheet of the row.
 pub(crate) fn sheet(table: &[u8], first: usize, end: usize, out: &mut [u8]) -> usize
     requires { (first ≤ end) × (end ≤ length table.now) }
-    ensures { IsPrefixLen result out.new }
+    ensures { (result ≤ length out.new) × (result ≡ length (take result out.new)) }
 {
     let mut n = 0;
     let mut base = 0;
@@ -154,7 +153,7 @@ fn said(table: &[u8], at: usize, next: usize, out: &mut [u8], n: usize) -> usize
 // The answer of the row.
 pub(crate) fn answer(table: &[u8], first: usize, end: usize, out: &mut [u8]) -> usize
     requires { (first ≤ end) × (end ≤ length table.now) }
-    ensures { IsPrefixLen result out.new }
+    ensures { (result ≤ length out.new) × (result ≡ length (take result out.new)) }
 {
     let mut n = 0;
     let mut at = first;

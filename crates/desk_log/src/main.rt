@@ -8,7 +8,8 @@ ghost use Rattle.desk_log.specs.Reply.{Kept, InOrder, NextIs};
 mod entry; // entry.rt: what a line says
 
 use desk::{CARTON_LIMIT, LOG_LIMIT};
-use libc::{STDIN_FILENO, STDOUT_FILENO};
+use std::env::Env;
+use std::io::Read;
 
 // So much of a line is kept: a byte more than the longest entry has, so that a longer line is seen to be none.
 const LINE_ROOM: usize = 5;
@@ -16,8 +17,9 @@ const LINE_ROOM: usize = 5;
 // So much of an argument, for the same reason.
 const WORD_ROOM: usize = 3;
 
-fn say(text: &[u8]) {
-    io::write_all(STDOUT_FILENO, text);
+// An answer that cannot be written is no fault of the program: who called it sees that.
+fn say(rt: &impl Print, text: &[u8]) {
+    let _ = rt.write_all(text);
 }
 
 // A print is in order if the label may be printed; a void always is.
@@ -43,79 +45,72 @@ fn next(cartons: usize, log: &[u8]) -> usize
     label
 }
 
-fn say_next(label: usize) {
+fn say_next(rt: &impl Print, label: usize) {
     if label == 0 {
-        say(b"all are out\n");
+        say(rt, b"all are out\n");
         return;
     }
-    say(b"next is ");
-    io::print_decimal(STDOUT_FILENO, label as u64);
-    say(b"\n");
+    let _ = println!(rt; "next is {label}");
 }
 
 // One line, put to the log and answered; how many steps the log has then. What is no entry, or finds the log full, is not put to it.
-fn heard(cartons: usize, log: &mut [u8], steps: usize, line: &[u8]) -> usize
+fn heard(rt: &impl Print, cartons: usize, log: &mut [u8], steps: usize, line: &[u8]) -> usize
     requires { (length log.old ≡ step_limit) × (steps ≤ step_limit) × Kept cartons (take steps log.old) }
     ensures { (length log.new ≡ step_limit) × (result ≤ step_limit) × Kept cartons (take result log.new) }
 {
     let action = entry::action(cartons, line);
     if cartons < action {
-        say(b"not counted: neither a label nor void\n");
+        say(rt, b"not counted: neither a label nor void\n");
         return steps;
     }
     if LOG_LIMIT <= steps {
-        say(b"not counted: the log is full\n");
+        say(rt, b"not counted: the log is full\n");
         return steps;
     }
     if in_order(cartons, &log[..steps], action) {
-        say(b"in order, ");
+        say(rt, b"in order, ");
     } else {
-        say(b"out of order, ");
+        say(rt, b"out of order, ");
     }
     log[steps] = action as u8;
     let after = steps + 1;
     let label = next(cartons, &log[..after]);
-    say_next(label);
+    say_next(rt, label);
     after
 }
 
-// Line by line to the end of input. A proved loop has to end: this one counts its bytes, to a number that no day reaches.
-fn listen(cartons: usize)
+// Line by line to the end of input, or to a byte that cannot be read.
+fn listen(rt: &(impl Input + Print), cartons: usize)
     requires { (1 ≤ cartons) × (cartons ≤ carton_limit) }
 {
     let mut log = [0u8; LOG_LIMIT];
     let mut steps = 0;
     let mut line = [0u8; LINE_ROOM];
     let mut n = 0;
-    let mut left = u64::MAX;
-    while left > 0 {
-        let mut byte = [0u8; 1];
-        let got = io::read_full(STDIN_FILENO, &mut byte);
-        if got == 0 {
-            if n > 0 {
-                heard(cartons, &mut log, steps, &line[..n]);
-            }
-            return;
-        }
-        let b = byte[0];
+    for byte in rt.reader().bytes() {
+        let Ok(b) = byte else {
+            break;
+        };
         if b == b'\n' {
-            steps = heard(cartons, &mut log, steps, &line[..n]);
+            steps = heard(rt, cartons, &mut log, steps, &line[..n]);
             n = 0;
         } else if n < LINE_ROOM {
             line[n] = b;
             n += 1;
         }
-        left -= 1;
+    }
+    if n > 0 {
+        heard(rt, cartons, &mut log, steps, &line[..n]);
     }
 }
 
-fn main() {
+fn main(rt: HostRuntime) {
     let mut word = [0u8; WORD_ROOM];
-    let n = os::arg(1, &mut word);
+    let n = rt.arg(1, &mut word).unwrap_or(0);
     let cartons = entry::label(CARTON_LIMIT, &word[..n]);
     if cartons == 0 {
-        say(b"refused=3\n");
+        say(&rt, b"refused=3\n");
         return;
     }
-    listen(cartons);
+    listen(&rt, cartons);
 }

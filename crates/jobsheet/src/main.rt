@@ -1,15 +1,37 @@
 #![tactic(auto)]
 // Answers the sheet on standard input. A sheet has at most 6,738 bytes: one byte more is read, so that a longer one is seen to be, and nothing after it.
+ghost use Rattle.std.specs.Prelude.{◌≤◌, length};
+
 use answer::ANSWER_ROOM;
-use libc::{STDIN_FILENO, STDOUT_FILENO};
 use sheet::SHEET_LIMIT;
+use std::io::Read;
 
 const READ_LIMIT: usize = SHEET_LIMIT + 1;
 
-fn main() {
+// Reads to the end of the buffer or of the input, or up to a read that fails: how many bytes those are.
+fn read_full(input: &mut impl Read, buffer: &mut [u8]) -> usize
+    ensures { result ≤ length buffer.new }
+{
+    let mut n = 0;
+    while n < buffer.len() {
+        match input.read(&mut buffer[n..]) {
+            Ok(more) => {
+                if more == 0 {
+                    return n;
+                }
+                n += more;
+            }
+            Err(_) => return n,
+        }
+    }
+    n
+}
+
+// An answer that cannot be written is no fault of the program: who called it sees that.
+fn main(rt: HostRuntime) {
     let mut sheet = [0u8; READ_LIMIT];
-    let n = io::read_full(STDIN_FILENO, &mut sheet);
+    let n = read_full(&mut rt.reader(), &mut sheet);
     let mut out = [0u8; ANSWER_ROOM];
     let count = answer::answer(&sheet[..n], &mut out);
-    io::write_all(STDOUT_FILENO, &out[..count]);
+    let _ = rt.write_all(&out[..count]);
 }

@@ -1,22 +1,18 @@
 #![tactic(auto)]
 // Runs the reading of rules on a table of cases and compares: the number and the rest that reading one rule gives, and the number for exactly one
 // rule. One line a case; then a table of ends.
-use libc::STDOUT_FILENO;
 use rule::Kind;
+use std::io;
 use theory::{Check, Counts};
 
-fn say(text: &[u8]) {
-    io::write_all(STDOUT_FILENO, text);
-}
-
-fn verdict(good: bool, name: &[u8]) {
+fn verdict(rt: &impl Print, good: bool, name: &[u8]) -> io::Result<()> {
     if good {
-        say(b"ok ");
+        rt.write_all(b"ok ")?;
     } else {
-        say(b"WRONG ");
+        rt.write_all(b"WRONG ")?;
     }
-    say(name);
-    say(b"\n");
+    rt.write_all(name)?;
+    rt.write_all(b"\n")
 }
 
 fn number_of(checked: Check) -> u8 {
@@ -39,7 +35,16 @@ fn valued(fluents: usize, actions: usize, domain: usize) -> Counts {
 }
 
 // One row: the call's input, then the number and how many bytes are left over by `read_rule`, and the number by `check_rule`.
-fn row(name: &[u8], text: &[u8], kind: Kind, counts: Counts, read: u8, left: usize, check: u8) {
+fn row(
+    rt: &impl Print,
+    name: &[u8],
+    text: &[u8],
+    kind: Kind,
+    counts: Counts,
+    read: u8,
+    left: usize,
+    check: u8,
+) -> io::Result<()> {
     let mut refusal = 99u8;
     let rest = rule::read_rule(text, kind, counts, &mut refusal);
     let over = rest.len();
@@ -54,23 +59,52 @@ fn row(name: &[u8], text: &[u8], kind: Kind, counts: Counts, read: u8, left: usi
     if checked != check {
         good = false;
     }
-    verdict(good, name);
+    verdict(rt, good, name)
 }
 
-fn lengths_and_depths() {
+fn lengths_and_depths(rt: &impl Print) -> io::Result<()> {
     let mut deep = [b'!'; 256];
     deep[255] = b'1';
     let all = &deep[..];
-    row(b"0 bytes", &all[256..], Kind::Test, of(0, 1), 6, 0, 6);
-    row(b"256 bytes", all, Kind::Test, of(0, 1), 6, 0, 6);
-    row(b"254 ! and a 1", &all[1..], Kind::Test, of(0, 1), 8, 0, 8);
-    row(b"24 ! and a 1", &all[231..], Kind::Test, of(0, 1), 8, 0, 8);
-    row(b"23 ! and a 1", &all[232..], Kind::Test, of(0, 1), 0, 0, 0);
+    row(rt, b"0 bytes", &all[256..], Kind::Test, of(0, 1), 6, 0, 6)?;
+    row(rt, b"256 bytes", all, Kind::Test, of(0, 1), 6, 0, 6)?;
+    row(
+        rt,
+        b"254 ! and a 1",
+        &all[1..],
+        Kind::Test,
+        of(0, 1),
+        8,
+        0,
+        8,
+    )?;
+    row(
+        rt,
+        b"24 ! and a 1",
+        &all[231..],
+        Kind::Test,
+        of(0, 1),
+        8,
+        0,
+        8,
+    )?;
+    row(
+        rt,
+        b"23 ! and a 1",
+        &all[232..],
+        Kind::Test,
+        of(0, 1),
+        0,
+        0,
+        0,
+    )?;
+    Ok(())
 }
 
-fn names() {
-    row(b"a6", b"a6", Kind::Walk, of(32, 64), 6, 0, 6);
+fn names(rt: &impl Print) -> io::Result<()> {
+    row(rt, b"a6", b"a6", Kind::Walk, of(32, 64), 6, 0, 6)?;
     row(
+        rt,
         b"a64 with 64 actions",
         b"a64",
         Kind::Walk,
@@ -78,8 +112,9 @@ fn names() {
         7,
         0,
         7,
-    );
+    )?;
     row(
+        rt,
         b"a63 with 64 actions",
         b"a63",
         Kind::Walk,
@@ -87,8 +122,9 @@ fn names() {
         0,
         0,
         0,
-    );
+    )?;
     row(
+        rt,
         b"f00 with no fluents",
         b"f00",
         Kind::Test,
@@ -96,8 +132,9 @@ fn names() {
         7,
         0,
         7,
-    );
+    )?;
     row(
+        rt,
         b"f31 with 32 fluents",
         b"f31",
         Kind::Test,
@@ -105,11 +142,13 @@ fn names() {
         0,
         0,
         0,
-    );
+    )?;
+    Ok(())
 }
 
-fn signs() {
+fn signs(rt: &impl Print) -> io::Result<()> {
     row(
+        rt,
         b"bytes over 127",
         b"\xc3\xa4",
         Kind::Walk,
@@ -117,8 +156,9 @@ fn signs() {
         6,
         0,
         6,
-    );
+    )?;
     row(
+        rt,
         b"a digit where a sign is due",
         b"*7",
         Kind::Walk,
@@ -126,13 +166,33 @@ fn signs() {
         6,
         0,
         6,
-    );
-    row(b"a walk for a test", b"n", Kind::Test, of(32, 64), 6, 0, 6);
-    row(b"a test for a walk", b"1", Kind::Walk, of(32, 64), 6, 0, 6);
+    )?;
+    row(
+        rt,
+        b"a walk for a test",
+        b"n",
+        Kind::Test,
+        of(32, 64),
+        6,
+        0,
+        6,
+    )?;
+    row(
+        rt,
+        b"a test for a walk",
+        b"1",
+        Kind::Walk,
+        of(32, 64),
+        6,
+        0,
+        6,
+    )?;
+    Ok(())
 }
 
-fn rests() {
+fn rests(rt: &impl Print) -> io::Result<()> {
     row(
+        rt,
         b"the second part missing",
         b";a00",
         Kind::Walk,
@@ -140,9 +200,10 @@ fn rests() {
         6,
         0,
         6,
-    );
-    row(b"11", b"11", Kind::Test, of(0, 1), 0, 1, 6);
+    )?;
+    row(rt, b"11", b"11", Kind::Test, of(0, 1), 0, 1, 6)?;
     row(
+        rt,
         b"a rest that is no rule",
         b"<-;a00*n1\xff\xff",
         Kind::Test,
@@ -150,14 +211,16 @@ fn rests() {
         0,
         2,
         6,
-    );
+    )?;
+    Ok(())
 }
 
-fn jobs() {
-    row(b"job u", b"u", Kind::Job, of(0, 1), 9, 0, 9);
-    row(b"walk u", b"u", Kind::Walk, of(0, 1), 0, 0, 0);
-    row(b"job ?<u1", b"?<u1", Kind::Job, of(0, 1), 0, 0, 0);
+fn jobs(rt: &impl Print) -> io::Result<()> {
+    row(rt, b"job u", b"u", Kind::Job, of(0, 1), 9, 0, 9)?;
+    row(rt, b"walk u", b"u", Kind::Walk, of(0, 1), 0, 0, 0)?;
+    row(rt, b"job ?<u1", b"?<u1", Kind::Job, of(0, 1), 0, 0, 0)?;
     row(
+        rt,
         b"job with r in a choice",
         b"|a00*r00",
         Kind::Job,
@@ -165,8 +228,9 @@ fn jobs() {
         9,
         0,
         9,
-    );
+    )?;
     row(
+        rt,
         b"job with a converse",
         b";n-n",
         Kind::Job,
@@ -174,15 +238,17 @@ fn jobs() {
         9,
         0,
         9,
-    );
+    )?;
+    Ok(())
 }
 
-fn smallest_first() {
-    row(b"33 fluents", b"a6", Kind::Walk, of(33, 64), 3, 0, 3);
-    row(b"no actions", b"1", Kind::Test, of(0, 0), 3, 0, 3);
-    row(b"65 actions", b"1", Kind::Test, of(0, 65), 3, 0, 3);
-    row(b"7 before 9", b"r05", Kind::Job, of(0, 1), 7, 0, 7);
+fn smallest_first(rt: &impl Print) -> io::Result<()> {
+    row(rt, b"33 fluents", b"a6", Kind::Walk, of(33, 64), 3, 0, 3)?;
+    row(rt, b"no actions", b"1", Kind::Test, of(0, 0), 3, 0, 3)?;
+    row(rt, b"65 actions", b"1", Kind::Test, of(0, 65), 3, 0, 3)?;
+    row(rt, b"7 before 9", b"r05", Kind::Job, of(0, 1), 7, 0, 7)?;
     row(
+        rt,
         b"a rest is found before a name",
         b"a05n",
         Kind::Walk,
@@ -190,12 +256,14 @@ fn smallest_first() {
         7,
         0,
         6,
-    );
+    )?;
+    Ok(())
 }
 
 // Document 02, Q-2: the signs of variables.
-fn variables() {
+fn variables(rt: &impl Print) -> io::Result<()> {
     row(
+        rt,
         b"pvb00v of three actions, 3 values",
         b"pvb00v",
         Kind::Walk,
@@ -203,8 +271,9 @@ fn variables() {
         0,
         0,
         0,
-    );
+    )?;
     row(
+        rt,
         b"pvb01v, 2 values",
         b"pvb01v",
         Kind::Walk,
@@ -212,8 +281,9 @@ fn variables() {
         0,
         0,
         0,
-    );
+    )?;
     row(
+        rt,
         b"pvb01v, 3 values",
         b"pvb01v",
         Kind::Walk,
@@ -221,8 +291,9 @@ fn variables() {
         7,
         0,
         7,
-    );
+    )?;
     row(
+        rt,
         b"b00v, 2 values",
         b"b00v",
         Kind::Walk,
@@ -230,8 +301,9 @@ fn variables() {
         13,
         0,
         13,
-    );
+    )?;
     row(
+        rt,
         b"b00v, no values",
         b"b00v",
         Kind::Walk,
@@ -239,8 +311,9 @@ fn variables() {
         6,
         0,
         6,
-    );
+    )?;
     row(
+        rt,
         b"b02v, 2 values",
         b"b02v",
         Kind::Walk,
@@ -248,8 +321,9 @@ fn variables() {
         7,
         0,
         7,
-    );
+    )?;
     row(
+        rt,
         b"pvb00w, 2 values",
         b"pvb00w",
         Kind::Walk,
@@ -257,8 +331,9 @@ fn variables() {
         13,
         0,
         13,
-    );
+    )?;
     row(
+        rt,
         b";pvb00vb00v, 2 values",
         b";pvb00vb00v",
         Kind::Walk,
@@ -266,8 +341,9 @@ fn variables() {
         13,
         0,
         13,
-    );
+    )?;
     row(
+        rt,
         b"pvpw;b00vb00w, 2 values",
         b"pvpw;b00vb00w",
         Kind::Walk,
@@ -275,8 +351,9 @@ fn variables() {
         0,
         0,
         0,
-    );
+    )?;
     row(
+        rt,
         b"pvpv;b00vb00v, 3 values",
         b"pvpv;b00vb00v",
         Kind::Walk,
@@ -284,8 +361,9 @@ fn variables() {
         0,
         0,
         0,
-    );
+    )?;
     row(
+        rt,
         b"a00, 16 values",
         b"a00",
         Kind::Walk,
@@ -293,8 +371,9 @@ fn variables() {
         0,
         0,
         0,
-    );
+    )?;
     row(
+        rt,
         b"a00, 17 values",
         b"a00",
         Kind::Walk,
@@ -302,8 +381,9 @@ fn variables() {
         3,
         0,
         3,
-    );
+    )?;
     row(
+        rt,
         b"pza00, 2 values",
         b"pza00",
         Kind::Walk,
@@ -311,8 +391,9 @@ fn variables() {
         6,
         0,
         6,
-    );
+    )?;
     row(
+        rt,
         b"b0v, 2 values",
         b"b0v",
         Kind::Walk,
@@ -320,8 +401,9 @@ fn variables() {
         6,
         0,
         6,
-    );
+    )?;
     row(
+        rt,
         b"b00, 2 values",
         b"b00",
         Kind::Walk,
@@ -329,8 +411,9 @@ fn variables() {
         6,
         0,
         6,
-    );
+    )?;
     row(
+        rt,
         b"v00, 2 values",
         b"v00",
         Kind::Walk,
@@ -338,8 +421,9 @@ fn variables() {
         6,
         0,
         6,
-    );
+    )?;
     row(
+        rt,
         b"evg00v, 2 values",
         b"evg00v",
         Kind::Test,
@@ -347,8 +431,9 @@ fn variables() {
         0,
         0,
         0,
-    );
+    )?;
     row(
+        rt,
         b"evg00v, 3 values",
         b"evg00v",
         Kind::Test,
@@ -356,8 +441,9 @@ fn variables() {
         7,
         0,
         7,
-    );
+    )?;
     row(
+        rt,
         b"job s00v, 2 values",
         b"s00v",
         Kind::Job,
@@ -365,8 +451,9 @@ fn variables() {
         9,
         0,
         9,
-    );
+    )?;
     row(
+        rt,
         b"job pvs00v, 2 values",
         b"pvs00v",
         Kind::Job,
@@ -374,8 +461,9 @@ fn variables() {
         9,
         0,
         9,
-    );
+    )?;
     row(
+        rt,
         b"job pv?<s00v1, 2 values",
         b"pv?<s00v1",
         Kind::Job,
@@ -383,8 +471,9 @@ fn variables() {
         0,
         0,
         0,
-    );
+    )?;
     row(
+        rt,
         b"walk -s00v, 1 value",
         b"-s00v",
         Kind::Walk,
@@ -392,8 +481,9 @@ fn variables() {
         13,
         0,
         13,
-    );
+    )?;
     row(
+        rt,
         b"pvb00v and a rest",
         b"pvb00vn",
         Kind::Walk,
@@ -401,14 +491,16 @@ fn variables() {
         0,
         1,
         6,
-    );
+    )?;
+    Ok(())
 }
 
 // A binder adds one to the depth, a letter nothing.
-fn depths_of_variables() {
+fn depths_of_variables(rt: &impl Print) -> io::Result<()> {
     let deep = b"!!!!!!!!!!!!!!!!!!!!!!!evg00v";
     let all = &deep[..];
     row(
+        rt,
         b"23 ! before evg00v",
         all,
         Kind::Test,
@@ -416,8 +508,9 @@ fn depths_of_variables() {
         8,
         0,
         8,
-    );
+    )?;
     row(
+        rt,
         b"22 ! before evg00v",
         &all[1..],
         Kind::Test,
@@ -425,28 +518,30 @@ fn depths_of_variables() {
         0,
         0,
         0,
-    );
+    )?;
+    Ok(())
 }
 
 // In -;a00*n the sequence ends with the text, its first part before the star; past the text the table is left.
-fn table_of_ends() {
+fn table_of_ends(rt: &impl Print) -> io::Result<()> {
     let mut ends = [99u8; 12];
     grammar::ends::fill_ends(b"-;a00*n", &mut ends);
-    verdict(ends[1] == 7, b"the sequence ends at 7");
-    verdict(ends[2] == 5, b"its first part ends at 5");
-    verdict(ends[5] == 7, b"its second part ends at 7");
-    verdict(ends[7] == 7, b"the text ends at 7");
-    verdict(ends[8] == 99, b"nothing is written past it");
+    verdict(rt, ends[1] == 7, b"the sequence ends at 7")?;
+    verdict(rt, ends[2] == 5, b"its first part ends at 5")?;
+    verdict(rt, ends[5] == 7, b"its second part ends at 7")?;
+    verdict(rt, ends[7] == 7, b"the text ends at 7")?;
+    verdict(rt, ends[8] == 99, b"nothing is written past it")?;
+    Ok(())
 }
 
-fn main() {
-    lengths_and_depths();
-    names();
-    signs();
-    rests();
-    jobs();
-    smallest_first();
-    variables();
-    depths_of_variables();
-    table_of_ends();
+fn main(rt: HostRuntime) -> io::Result<()> {
+    lengths_and_depths(&rt)?;
+    names(&rt)?;
+    signs(&rt)?;
+    rests(&rt)?;
+    jobs(&rt)?;
+    smallest_first(&rt)?;
+    variables(&rt)?;
+    depths_of_variables(&rt)?;
+    table_of_ends(&rt)
 }
