@@ -71,7 +71,7 @@ def is_field(text, start):
 def names(text):
     """The names that a text of antt says, fields and members of modules left out, each operator also by its parts."""
     said = {m[0] for m in NAME.finditer(text) if not is_field(text, m.start())}
-    return said | {part for name in said if "_" in name for part in name.split("_") if part}
+    return said | {part for name in said if "◌" in name for part in name.split("◌") if part}
 
 
 def words(code):
@@ -80,8 +80,8 @@ def words(code):
 
 def is_said(name, said):
     """An operator is said by its whole name, or by all of its parts."""
-    parts = [part for part in name.split("_") if part]
-    return name in said or ("_" in name and all(part in said for part in parts))
+    parts = [part for part in name.split("◌") if part]
+    return name in said or ("◌" in name and all(part in said for part in parts))
 
 
 def sources(root):

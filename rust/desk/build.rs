@@ -1,4 +1,4 @@
-//! Links the proved static library, which `rt staticlib desk` writes to target/staticlib of the project.
+//! Links the proved static library, which `./build-library` writes to target/staticlib of the project.
 use std::path::PathBuf;
 
 fn main() {

@@ -14,8 +14,7 @@ pub const CARTON_LIMIT: usize = 16;
 pub const LOG_LIMIT: usize = 63;
 
 // Whether the label may be printed at the log's end: 1 or 0 in the slot.
-#[unsafe(no_mangle)]
-pub extern "C" fn desk_may_print(cartons: usize, log: &[u8], label: usize, yes: &mut u8) -> u8
+pub fn desk_may_print(cartons: usize, log: &[u8], label: usize, yes: &mut u8) -> u8
     ensures { PrintAnswered cartons log.now label result yes.new }
 {
     *yes = 0;
@@ -44,8 +43,7 @@ pub extern "C" fn desk_may_print(cartons: usize, log: &[u8], label: usize, yes: 
 }
 
 // The lowest label that is not out at the log's end; 0 where all are out.
-#[unsafe(no_mangle)]
-pub extern "C" fn desk_lowest(cartons: usize, log: &[u8], label: &mut usize) -> u8
+pub fn desk_lowest(cartons: usize, log: &[u8], label: &mut usize) -> u8
     ensures { LowestAnswered cartons log.now result label.new }
 {
     *label = 0;

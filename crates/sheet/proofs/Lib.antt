@@ -10,4 +10,5 @@ pub mod Determined
 pub mod Accepted
 pub mod Older
 pub mod Longest
+pub mod Widths
 pub mod Places

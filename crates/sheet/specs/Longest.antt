@@ -1,9 +1,9 @@
 -- Document 01, "The sheet", and document 02: how long the longest sheet of a version is, from the widths of its lines; and the longest of all.
-use Rattle.std.specs.Prelude.{◌≡◌, refl, cond, List, [], ◌∷◌, ℕ, ◌+◌, ◌*◌, max}
+use Rattle.std.specs.Prelude.{cond, List, [], ◌∷◌, ℕ, ◌+◌, ◌*◌, max}
 use Rattle.meaning.specs.Limits.{action_limit}
 use Rattle.theory.specs.declared.Counts.{Counts}
 use Rattle.sheet_lines.specs.Line.{line_width}
-use Rattle.sheet_lines.specs.Versions.{sheet1, sheet2, sheet3, sheet4, versions}
+use Rattle.sheet_lines.specs.Versions.{versions}
 use Rattle.sheet_lines.specs.Forms.{version_form, fluents_form, actions_form, domain_form, start_form, act_form, log_form, now_form, ask_form, run_form, more_form}
 use Rattle.sheet_lines.specs.declared.Version.{Version}
 
@@ -54,20 +54,3 @@ longest_of (v ∷ vs) = max (longest v) (longest_of vs)
 -- 1: "the sheet is longer than" this; "refusal 1 uses the largest limit of all versions"
 abbrev pub sheet_limit : ℕ
 sheet_limit = longest_of versions
-
--- "With 64 actions the longest sheet has 3,263 bytes", one of version 2 the bytes of a line more: "Sheet limit 3,273"; with ten masks a line "Sheet limit 6,729", and with the
--- line of the reading "Sheet limit 6,738."
-pub as_documented : longest sheet1 ≡ 3263
-as_documented = refl
-
-pub as_requested : longest sheet2 ≡ 3273
-as_requested = refl
-
-pub with_clauses : longest sheet3 ≡ 6729
-with_clauses = refl
-
-pub reading_width : longest sheet4 ≡ 6738
-reading_width = refl
-
-pub for_every_version : sheet_limit ≡ 6738
-for_every_version = refl

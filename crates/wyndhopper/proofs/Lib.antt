@@ -1,3 +1,4 @@
+pub mod Determined
 pub mod Stands
 pub mod Tally
 pub mod Written

@@ -15,8 +15,7 @@ use Rattle.ask.proofs.Stands.{reach_stands, verdict_stands}
 use Rattle.board.specs.Answer.{BoardAnswered}
 use Rattle.board.proofs.Stands.{board_stands}
 use Rattle.exported.specs.Exported.{InSlot}
-use Rattle.state_calls.proofs.Determined.{wyh_state_determined}
-use Rattle.ask_calls.proofs.Determined.{wyh_reach_determined, wyh_verdict_determined, wyh_board_determined}
+use Rattle.wyndhopper.proofs.Determined.{wyh_state_determined, wyh_reach_determined, wyh_verdict_determined, wyh_board_determined}
 
 module _ (s : Setting) (masks l l' : List ℕ) (now : ℕ) (same : Agree l l' now) (one : Reaches s l now) (other : Reaches s l' now) where
   abbrev before : Subject

@@ -28,7 +28,7 @@ use Rattle.tally.specs.declared.Tally.{Tally}
 use Rattle.tally.proofs.Made.{made_kept}
 use Rattle.tally.proofs.Verdict.{happened_iff}
 use Rattle.exported.specs.Exported.{InSlot}
-use Rattle.ask_calls.proofs.Determined.{wyh_verdict_determined}
+use Rattle.wyndhopper.proofs.Determined.{wyh_verdict_determined}
 
 -- the bytes `<-;aNN*n1`
 abbrev pub happened_text : ℕ → List ℕ

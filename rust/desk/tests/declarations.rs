@@ -43,7 +43,7 @@ fn passed(parameter: &str) -> Vec<String> {
 
 #[test]
 fn the_functions_are_the_same() {
-    let (header, raw, exports) = (file("include/carton_desk.h"), file("rust/desk/src/raw.rs"), file("crates/desk/src/lib.rt"));
+    let (header, raw, exports) = (file("include/carton_desk.h"), file("rust/desk/src/raw.rs"), file("crates/desk_c/src/lib.rt"));
     for function in ["desk_may_print", "desk_lowest"] {
         let ours = parameters(&raw, function);
         assert_eq!(parameters(&header, function), ours.iter().map(|p| in_c(p)).collect::<Vec<_>>());

@@ -1,13 +1,12 @@
 -- `tables::turn` meets its contract. The loop's invariant: what is turned so far are the fluents by which the rest differs from what changed.
-use Prim.Native.Nat.{◌-◌, ◌^◌, ◌<◌}
+use Prim.Native.Nat.{◌<◌}
 use native.Mathlib.Omega.{arith}
 use native.Mathlib.Nat.{mod-lt}
-use lib.Bits.{bit_xor, xor_lt}
+use lib.Bits.{xor_lt}
 use lib.Pow.{pow_pos}
 use lib.Count.{count_trailing_zeros}
 use Rattle.laws.proofs.First.{lowest_within, lowest_later}
 use Rattle.meaning.specs.Limits.{fluent_limit}
-use Rattle.tables.specs.Tables.{Reversed}
 use Rattle.tables.proofs.Marks.{turn_none, turn_more, turn_all}
 use Rattle.tables.proofs.turn.Goals as goal
 

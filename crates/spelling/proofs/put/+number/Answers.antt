@@ -1,7 +1,7 @@
 -- `spelling::put::number` meets its contract: the digits before the last one are those of the number without it. The width falls.
 use mathlib.Core.Path.{ap, ◌∙◌}
 use mathlib.Core.List.{[], ◌∷◌, ◌++◌}
-use Prim.Native.Nat.{ℕ, ◌-◌, ◌/◌, ◌<◌}
+use Prim.Native.Nat.{◌-◌, ◌/◌}
 use native.Mathlib.Nat.{mod-lt}
 use native.Mathlib.Omega.{arith}
 use Rattle.spelling.specs.Numeral.{numeral}

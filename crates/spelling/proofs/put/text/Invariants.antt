@@ -1,10 +1,7 @@
 -- `spelling::put::text` meets its contract: what is written so far is the text's beginning.
 use Prim.Native.Nat.{◌≤◌, ◌-◌}
-use native.Mathlib.Omega.{arith}
-use lib.ListN.{length, take, length-take}
-use lib.Seq.{take_all}
+use lib.ListN.{length, take}
 use Rattle.spelling.specs.Wrote.{Wrote}
-use Rattle.spelling.proofs.Writing.{wrote_nothing, wrote_byte, wrote_as, wrote_length}
 use Rattle.spelling.proofs.put.text.Given as goal
 
 abbrev pub invariant-loop-i : goal.invariant-loop-i

@@ -1,8 +1,6 @@
 -- `spelling::scan::find_lf` meets its contract. The loop has passed no LF. Assumes nothing.
 use mathlib.Core.Path.{◌≡◌}
 use Prim.Native.Nat.{ℕ, ◌-◌, ◌≤◌, ◌<◌}
-use native.Mathlib.Omega.{arith}
-use borrow.Author.Count.{below_more}
 use lib.ListN.{length, get_or}
 use Rattle.spelling.specs.Numeral.{lf}
 use Rattle.spelling.proofs.scan.find_lf.Given as goal

@@ -1,9 +1,9 @@
 -- `spelling::scan::number_at` meets its contract. The loop has read the first digits. Assumes nothing.
 use mathlib.Core.Path.{◌≡◌, refl, ◌∙◌}
-use Prim.Native.Nat.{◌+◌, ◌-◌, ◌*◌, ◌^◌, ◌≤◌, ◌<◌}
+use Prim.Native.Nat.{◌+◌, ◌*◌, ◌^◌, ◌<◌}
 use native.Mathlib.Nat.{pow-zero}
 use native.Mathlib.Omega.{arith}
-use lib.ListN.{take, drop, length-drop}
+use lib.ListN.{drop, length-drop}
 use lib.Seq.{get_or-drop}
 use Rattle.spelling.specs.Numeral.{numeral}
 use Rattle.spelling.proofs.Bytes.{number_more, below_number, number_fits, number_none}
@@ -36,34 +36,34 @@ returns-then-base-d c =
 
 pub overflow_mul-n : goal.overflow_mul-n
 overflow_mul-n c =
-    let room : c.loop-i.n * c.args.base + c.digit_of-d.result < 2 ^ 32 = 
-        number_fits
-        c.args.base
-        c.args.width
-        c.loop-i.i
-        c.loop-i.n
-        c.digit_of-d.result
-        c.requires.some
-        c.if-base-d.false
-        (omega arith)
-        c.requires.fits
-        c.loop-i.invariant.1 in
+    let room : c.loop-i.n * c.args.base + c.digit_of-d.result < 2 ^ 32 =
+    number_fits
+    c.args.base
+    c.args.width
+    c.loop-i.i
+    c.loop-i.n
+    c.digit_of-d.result
+    c.requires.some
+    c.if-base-d.false
+    (omega arith)
+    c.requires.fits
+    c.loop-i.invariant.1 in
     record { fits = omega (arith, room) }
 
 pub overflow_add-n : goal.overflow_add-n
 overflow_add-n c =
-    let room : c.loop-i.n * c.args.base + c.digit_of-d.result < 2 ^ 32 = 
-        number_fits
-        c.args.base
-        c.args.width
-        c.loop-i.i
-        c.loop-i.n
-        c.digit_of-d.result
-        c.requires.some
-        c.if-base-d.false
-        (omega arith)
-        c.requires.fits
-        c.loop-i.invariant.1 in
+    let room : c.loop-i.n * c.args.base + c.digit_of-d.result < 2 ^ 32 =
+    number_fits
+    c.args.base
+    c.args.width
+    c.loop-i.i
+    c.loop-i.n
+    c.digit_of-d.result
+    c.requires.some
+    c.if-base-d.false
+    (omega arith)
+    c.requires.fits
+    c.loop-i.invariant.1 in
     record { fits = room }
 
 pub overflow_add-i : goal.overflow_add-i

@@ -1,9 +1,7 @@
 -- `spelling::scan::opens_with` meets its contract. The loop has found the first bytes of the key. Assumes nothing.
-use mathlib.Core.Path.{◌≡◌, refl}
+use mathlib.Core.Path.{◌≡◌}
 use Prim.Native.Nat.{◌-◌, ◌≤◌}
-use native.Mathlib.Omega.{arith}
 use lib.ListN.{length, take, drop}
-use Rattle.spelling.proofs.Bytes.{said_no, said_yes, opens_more, opens_yes, opens_byte, opens_long}
 use Rattle.spelling.proofs.scan.opens_with.Given as goal
 
 abbrev pub invariant-loop-i : goal.invariant-loop-i

@@ -1,10 +1,5 @@
 -- `theory::faults::bad_log` meets its contract. The loop's invariant: the log is short enough, and every step passed is an action of the theory.
-use mathlib.Core.Path.{refl}
-use mathlib.Core.Logic.{inl, inr, ⊎_elim}
-use mathlib.Core.Bool.{false≢true}
 use Prim.Native.Nat.{ℕ, ◌≤◌, ◌<◌, ◌-◌}
-use native.Mathlib.Omega.{arith}
-use borrow.Author.Count.{below_more}
 use lib.ListN.{length, get_or}
 use Rattle.meaning.specs.Limits.{log_limit}
 use Rattle.theory.proofs.faults.bad_log.Given as goal

@@ -1,6 +1,6 @@
 -- `theory::faults::union` meets its contract. The loop's invariant: the mask so far names what the first i masks name.
 use mathlib.Core.Path.{◌≡◌, subst}
-use Prim.Native.Nat.{ℕ, ◌≤◌, ◌-◌}
+use Prim.Native.Nat.{ℕ}
 use native.Mathlib.Omega.{arith}
 use lib.ListN.{length}
 use Rattle.theory.specs.Union.{Union}

@@ -1,10 +1,7 @@
 -- `theory::faults::union` meets its contract. The loop's invariant: the mask so far names what the first i masks name.
-use mathlib.Core.Path.{◌≡◌, subst}
-use Prim.Native.Nat.{ℕ, ◌≤◌, ◌-◌}
-use native.Mathlib.Omega.{arith}
+use Prim.Native.Nat.{◌≤◌, ◌-◌}
 use lib.ListN.{length}
 use Rattle.theory.specs.Union.{Union}
-use Rattle.theory.proofs.Lacking.{union_none, union_more}
 use Rattle.theory.proofs.faults.union.Given as goal
 
 abbrev pub invariant-loop-i : goal.invariant-loop-i

@@ -1,10 +1,8 @@
 -- `theory::log::state_at` meets its contract. The loop's invariant: the state is that at position i.
-use mathlib.Core.Path.{◌≡◌, sym, ◌∙◌, ap}
+use mathlib.Core.Path.{◌≡◌}
 use mathlib.Core.List.{List}
 use Prim.Native.Nat.{ℕ, ◌≤◌, ◌-◌}
-use native.Mathlib.Omega.{arith}
-use Rattle.meaning.specs.Theory.{World, after, state_before}
-use Rattle.meaning.proofs.Theory.{state_start, state_step}
+use Rattle.meaning.specs.Theory.{World, state_before}
 use Rattle.theory.specs.Subject.{setting_of, subject_of, world_of}
 use Rattle.theory.proofs.log.state_at.Given as goal
 

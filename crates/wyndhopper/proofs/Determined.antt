@@ -1,22 +1,34 @@
 -- Any two outcomes that the contract of an exported function allows are equal: its result and every lent slot.
-use mathlib.Core.Path.{◌≡◌, sym, subst, ◌∙◌}
+use mathlib.Core.Path.{◌≡◌, sym, ◌∙◌, subst}
 use mathlib.Core.List.{List}
 use Prim.Native.Nat.{ℕ}
+use Rattle.meaning.proofs.Refusal.{answered_determined, one_verdict}
 use Rattle.meaning.specs.Rule.{Walk, Test}
 use Rattle.meaning.specs.Reach.{ReachedAs}
 use Rattle.meaning.specs.Leads.{Holds}
 use Rattle.meaning.specs.Refusal.{YesOrNo}
 use Rattle.meaning.proofs.Reach.{reached_as_unique}
-use Rattle.meaning.proofs.Refusal.{answered_determined, one_verdict}
 use Rattle.theory.specs.Subject.{Subject, world_of}
-use Rattle.board.specs.Answer.{BoardAnswered}
-use Rattle.board.proofs.Determined.{same_board}
+use Rattle.theory.specs.Answer.{StateAnswered}
+use Rattle.theory.specs.Possible.{PossibleAnswered}
 use Rattle.ask.specs.Reach.{ReachAnswered}
 use Rattle.ask.specs.Verdict.{VerdictAnswered}
+use Rattle.board.specs.Answer.{BoardAnswered}
+use Rattle.board.proofs.Determined.{same_board}
 use Rattle.exported.specs.Exported.{InSlot}
-use Rattle.exported.proofs.Slots.{one_walk, one_test, one_slot}
+use Rattle.exported.proofs.Slots.{one_slot, one_walk, one_test}
 
 module _ (s : Subject) where
+  pub wyh_state_determined : (position : ℕ) {number number' state state' : ℕ}
+      → StateAnswered s position number state → StateAnswered s position number' state' → (number ≡ number') × (state ≡ state')
+  wyh_state_determined position x y = answered_determined x y (λ n p q. (n, p ∙ sym q)) (λ n p q. (n, p ∙ sym q))
+
+  pub wyh_possible_determined : (action position : ℕ) {number number' yes yes' : ℕ}
+      → InSlot (PossibleAnswered s action position number) yes → InSlot (PossibleAnswered s action position number') yes'
+      → (number ≡ number') × (yes ≡ yes')
+  wyh_possible_determined action position x y =
+      one_slot x y (λ a b. answered_determined a b (λ n p q. (n, p ∙ sym q)) (λ n p q. (n, one_verdict p q)))
+
   pub wyh_reach_determined : (walk : List ℕ) (then now : ℕ) {number number' set set' count count' earliest earliest' : ℕ}
       → ReachAnswered s walk then now number set count earliest
       → ReachAnswered s walk then now number' set' count' earliest'
