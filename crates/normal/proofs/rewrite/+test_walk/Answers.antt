@@ -206,7 +206,7 @@ walk-overflow_add-from t c =
 pub walk-walk-requires : goal.walk-walk-requires
 walk-walk-requires t c =
     let walk_here : WalkToWrite c.args.text.now c.args.ends.now c.args.at c.args.to = c.requires in
-    (omega (arith, c.decreases, asked.walk_in walk_here), asked.conv_here walk_here c.if-sign-eq45.true)
+    (omega (arith, c.decreases, asked.walk_in walk_here), asked.conv_here walk_here (omega arith))
 
 pub walk-shape_of-out-then-sign-eq45 : goal.walk-shape_of-out-then-sign-eq45
 walk-shape_of-out-then-sign-eq45 t c = c.walk.auto.out
@@ -237,7 +237,7 @@ walk-number-requires t c =
 pub walk-walk-requires-in-OverWalk : goal.walk-walk-requires-in-OverWalk
 walk-walk-requires-in-OverWalk t c =
     let walk_here : WalkToWrite c.args.text.now c.args.ends.now c.args.at c.args.to = c.requires in
-    (omega (arith, c.decreases, asked.walk_in walk_here), asked.star_here walk_here (sym c.in-OverWalk.is ∙ c.sign_of.ensures) c.if-sign-eq45.false)
+    (omega (arith, c.decreases, asked.walk_in walk_here), asked.star_here walk_here (sym c.in-OverWalk.is ∙ c.sign_of.ensures) (λ e. omega (arith, e)))
 
 pub walk-test-requires : goal.walk-test-requires
 walk-test-requires t c =
@@ -304,7 +304,7 @@ pub walk-returns-in-OverWalk : goal.walk-returns-in-OverWalk
 walk-returns-in-OverWalk t c =
     let walk-text : List ℕ = c.args.text.now in
     let walk-signed : SignWritten walk-text c.args.back c.args.at c.args.to c.args.out.now c.put.new.out = let a = c.args in record { put = c.put.ensures ∙ ap (set a.out.now a.to) c.facing.ensures } in
-    arms.star_written c.args.back walk-signed (sym c.in-OverWalk.is ∙ c.sign_of.ensures) c.if-sign-eq45.false c.walk-in-OverWalk.ensures
+    arms.star_written c.args.back walk-signed (sym c.in-OverWalk.is ∙ c.sign_of.ensures) (λ e. omega (arith, e)) c.walk-in-OverWalk.ensures
 
 pub walk-shape_of-out-in-OverTest : goal.walk-shape_of-out-in-OverTest
 walk-shape_of-out-in-OverTest t c =
