@@ -1,7 +1,6 @@
 -- The room holds what was written, the label's number; so the line is that number, or the number of no label up to this one.
-use Rattle.std.proofs.Common.{rules, arith, ◌≡◌, ◌≤◌, length, take, refl, sym, ◌∙◌, inl, inr}
+use Rattle.std.proofs.Common.{arith, refl, sym, ◌∙◌, inl}
 use Rattle.laws.proofs.Truth.{off_on}
-use Rattle.spelling.specs.Decimal.{decimal}
 use Rattle.desk_log.proofs.Spelled.{front_decimal, passed_more}
 use Rattle.desk_log.proofs.entry.label.Goals as goal
 
