@@ -85,5 +85,6 @@ def is_said(name, said):
 
 
 def sources(root):
-    """Every .rt and .antt file of the crates, in order."""
-    return sorted(f for f in (Path(root) / "crates").rglob("*") if f.suffix in (".rt", ".antt"))
+    """Every .rt and .antt file of the crates, in order, but for what rt makes of them in out/."""
+    files = (f for part in ("src", "specs", "proofs") for f in (Path(root) / "crates").glob(f"*/{part}/**/*"))
+    return sorted(f for f in files if f.suffix in (".rt", ".antt"))

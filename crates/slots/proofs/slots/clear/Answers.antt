@@ -1,10 +1,7 @@
 -- `slots::slots::clear` meets its contract: place by place, and where the table ends nothing is left to clear.
-use mathlib.Core.Path.{◌≡◌, refl, ◌∙◌}
-use mathlib.Core.Logic.{⊎_elim}
-use Prim.Native.Nat.{◌-◌, ◌≤◌}
+use mathlib.Core.Path.{refl, ◌∙◌}
 use native.Mathlib.Omega.{arith}
-use lib.ListN.{length, length-set}
-use Rattle.runs.specs.Slots.{Cleared}
+use lib.ListN.{length-set}
 use Rattle.runs.proofs.Keeping.{cleared_none, cleared_past, cleared_star, cleared_end, cleared_to}
 use Rattle.slots.proofs.slots.clear.Goals as goal
 use Rattle.slots.proofs.slots.clear.Goals.{then-text-i-eq42, else-text-i-eq42}

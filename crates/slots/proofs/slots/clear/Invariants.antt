@@ -1,11 +1,8 @@
 -- `slots::slots::clear` meets its contract: place by place, and where the table ends nothing is left to clear.
-use mathlib.Core.Path.{◌≡◌, refl, ◌∙◌}
-use mathlib.Core.Logic.{⊎_elim}
+use mathlib.Core.Path.{◌≡◌}
 use Prim.Native.Nat.{◌-◌, ◌≤◌}
-use native.Mathlib.Omega.{arith}
-use lib.ListN.{length, length-set}
+use lib.ListN.{length}
 use Rattle.runs.specs.Slots.{Cleared}
-use Rattle.runs.proofs.Keeping.{cleared_none, cleared_past, cleared_star, cleared_end, cleared_to}
 use Rattle.slots.proofs.slots.clear.Given as goal
 
 abbrev pub invariant-loop-i : goal.invariant-loop-i

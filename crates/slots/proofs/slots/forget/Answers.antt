@@ -1,9 +1,7 @@
 -- `slots::slots::forget` meets its contract: place by place, and where the table ends nothing is left to forget.
-use mathlib.Core.Path.{◌≡◌, refl, ◌∙◌}
-use Prim.Native.Nat.{◌-◌, ◌≤◌}
+use mathlib.Core.Path.{refl, ◌∙◌}
 use native.Mathlib.Omega.{arith}
-use lib.ListN.{length, length-set}
-use Rattle.runs.specs.Slots.{Forgotten}
+use lib.ListN.{length-set}
 use Rattle.runs.proofs.Keeping.{forgotten_none, forgotten_one, forgotten_end, forgotten_to}
 use Rattle.slots.proofs.slots.forget.Goals as goal
 

@@ -1,10 +1,8 @@
 -- `slots::slots::forget` meets its contract: place by place, and where the table ends nothing is left to forget.
-use mathlib.Core.Path.{◌≡◌, refl, ◌∙◌}
+use mathlib.Core.Path.{◌≡◌}
 use Prim.Native.Nat.{◌-◌, ◌≤◌}
-use native.Mathlib.Omega.{arith}
-use lib.ListN.{length, length-set}
+use lib.ListN.{length}
 use Rattle.runs.specs.Slots.{Forgotten}
-use Rattle.runs.proofs.Keeping.{forgotten_none, forgotten_one, forgotten_end, forgotten_to}
 use Rattle.slots.proofs.slots.forget.Given as goal
 
 abbrev pub invariant-loop-j : goal.invariant-loop-j
