@@ -61,14 +61,13 @@ stored_outside k low high = record { same = λ j h. k.other j (λ e. ⊎_elim (�
 -- a clearing, place by place
 module _ (bytes before : List ℕ) (from : ℕ) where
   pub cleared_none : Cleared bytes before from from before
-  cleared_none = record { stars = λ j low high. absurd (omega arith); signs = λ j not-star. refl; outside = outside_none; long = refl }
+  cleared_none = record { stars = λ j low high. absurd (omega arith); signs = λ j not-star. refl; outside = outside_none }
 
   pub cleared_past : {i : ℕ} {after : List ℕ} → (get_or bytes i 0 ≡ 42 → ⊥) → Cleared bytes before from i after → Cleared bytes before from (i + 1) after
   cleared_past {i} {after} not-star c = record {
     stars = λ j low high e. go j low high e (dec_lt j i);
     signs = c.signs;
     outside = outside_more (omega arith) (omega arith) c.outside;
-    long = c.long;
   }
     where
       go : (j : ℕ) → from ≤ j → j < i + 1 → get_or bytes j 0 ≡ 42 → Dec (j < i) → get_or after j 0 ≡ 0
@@ -84,7 +83,6 @@ module _ (bytes before : List ℕ) (from : ℕ) where
       same = λ j h. get_or-set_other after i j 0 0 (λ e. ⊎_elim (λ l. omega (arith, e, l)) (λ l. omega (arith, e, l)) h)
           ∙ c.outside.same j (⊎_elim inl (λ l. inr (omega (arith, l))) h);
     };
-    long = length-set after i 0 ∙ c.long;
   }
     where
       go : (j : ℕ) → from ≤ j → j < i + 1 → get_or bytes j 0 ≡ 42 → Dec (j ≡ i) → get_or (set after i 0) j 0 ≡ 0
@@ -100,7 +98,6 @@ module _ (bytes before : List ℕ) (from : ℕ) where
     stars = λ j low high e. go j low e (dec_lt j i);
     signs = c.signs;
     outside = outside_more (omega arith) onward c.outside;
-    long = c.long;
   }
     where
       go : (j : ℕ) → from ≤ j → get_or bytes j 0 ≡ 42 → Dec (j < i) → get_or after j 0 ≡ 0
@@ -110,7 +107,7 @@ module _ (bytes before : List ℕ) (from : ℕ) where
 -- a stretch that is forgotten, place by place
 module _ (before : List ℕ) (from : ℕ) where
   pub forgotten_none : Forgotten before from from before
-  forgotten_none = record { none = λ j low high. absurd (omega arith); outside = outside_none; long = refl }
+  forgotten_none = record { none = λ j low high. absurd (omega arith); outside = outside_none }
 
   pub forgotten_one : {i : ℕ} {after : List ℕ} → from ≤ i → i < length after → Forgotten before from i after → Forgotten before from (i + 1) (set after i 0)
   forgotten_one {i} {after} onward lent f = record {
@@ -119,7 +116,6 @@ module _ (before : List ℕ) (from : ℕ) where
       same = λ j h. get_or-set_other after i j 0 0 (λ e. ⊎_elim (λ l. omega (arith, e, l)) (λ l. omega (arith, e, l)) h)
           ∙ f.outside.same j (⊎_elim inl (λ l. inr (omega (arith, l))) h);
     };
-    long = length-set after i 0 ∙ f.long;
   }
     where
       go : (j : ℕ) → from ≤ j → j < i + 1 → Dec (j ≡ i) → get_or (set after i 0) j 0 ≡ 0
@@ -134,7 +130,6 @@ module _ (before : List ℕ) (from : ℕ) where
   forgotten_end {i} {to} {after} short onward f = record {
     none = λ j low high. go j low (dec_lt j i);
     outside = outside_more (omega arith) onward f.outside;
-    long = f.long;
   }
     where
       go : (j : ℕ) → from ≤ j → Dec (j < i) → get_or after j 0 ≡ 0

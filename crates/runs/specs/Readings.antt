@@ -8,11 +8,14 @@ use Rattle.runs.specs.Image.{Set}
 use Rattle.runs.specs.Values.{own_in, inner_in}
 use Rattle.runs.specs.Slots.{Forgotten}
 
--- Some positions of a set, with the now that a test at each of them has: under `step` the earliest alone, under `end` all of them.
+-- Some positions of a set, with the now that a test at each of them has: under `step` one position alone, under `end` all of them.
 pub record Together (left : Set) (n : ℕ) (bound : List ℕ) (own : ℕ) (these : Set) : Type 0 where
   pub some : (p : ℕ) × (these p ≡ true)
   pub within : (q : ℕ) → these q ≡ true → left q ≡ true
   pub now : (w : World) → w.own ≡ reading_of (own_in bound) → (q : ℕ) → these q ≡ true → own_now w q n ≡ own
+
+-- and which: under `step` the earliest, under `end` all that are left, with the walk's now
+pub record NextTurn (left : Set) (n : ℕ) (bound : List ℕ) (own : ℕ) (these : Set) : Type 0 where
   pub step : own_in bound ≡ 0 → (own ≡ earliest_of left) × ((q : ℕ) → (these q ≡ true) ↔ (q ≡ own))
   pub end : (own_in bound ≡ 0 → ⊥) → (own ≡ n) × ((q : ℕ) → these q ≡ left q)
 

@@ -22,13 +22,11 @@ pub record Cleared (bytes before : List ℕ) (from to : ℕ) (after : List ℕ) 
   pub stars : (j : ℕ) → from ≤ j → j < to → get_or bytes j 0 ≡ 42 → get_or after j 0 ≡ 0
   pub signs : (j : ℕ) → (get_or bytes j 0 ≡ 42 → ⊥) → get_or after j 0 ≡ get_or before j 0
   pub outside : Outside from to before after
-  pub long : length after ≡ length before
 
 -- the slots between two places have nothing; no other is changed
 pub record Forgotten (before : List ℕ) (from to : ℕ) (after : List ℕ) : Type 0 where
   pub none : (j : ℕ) → from ≤ j → j < to → get_or after j 0 ≡ 0
   pub outside : Outside from to before after
-  pub long : length after ≡ length before
 
 -- from the first place on, up to the last, every further byte is a `*`
 pub record StarsTo (bytes : List ℕ) (first last : ℕ) : Type 0 where

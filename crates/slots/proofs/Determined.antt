@@ -5,7 +5,7 @@ use mathlib.Core.List.{List}
 use Prim.Native.Nat.{ℕ, ◌≤◌, ◌<◌}
 use native.Mathlib.Decide.{dec_lt, ℕ_discrete}
 use native.Mathlib.Omega.{arith}
-use lib.ListN.{get_or}
+use lib.ListN.{length, get_or}
 use lib.Seq.{ext_get_or}
 use Rattle.laws.proofs.On.{same_bits}
 use Rattle.laws.proofs.Truth.{same_truth}
@@ -15,7 +15,7 @@ use Rattle.positions.proofs.Held.{same_set}
 use Rattle.runs.specs.Image.{Set}
 use Rattle.runs.specs.Values.{own_in, inner_in}
 use Rattle.runs.specs.Slots.{slot, Stored, Cleared, Forgotten}
-use Rattle.runs.specs.Readings.{Together, Renewed}
+use Rattle.runs.specs.Readings.{NextTurn, Renewed}
 
 -- `kept`
 pub kept_determined : (slots : List ℕ) (i : ℕ) (r s : PositionSet) → Proper r → Proper s → ((q : ℕ) → holds r q ≡ slot slots i q) → ((q : ℕ) → holds s q ≡ slot slots i q) → r ≡ s
@@ -42,8 +42,9 @@ between from to j = go (dec_lt j from) (dec_lt j to)
     go (no low) (no high) = inr (inr (omega arith))
 
 -- `clear`
-pub clear_determined : {bytes before after after' : List ℕ} {from to : ℕ} → Cleared bytes before from to after → Cleared bytes before from to after' → after ≡ after'
-clear_determined {bytes} {before} {after} {after'} {from} {to} x y = ext_get_or 0 after after' (x.long ∙ sym y.long) (λ j low. at j (ℕ_discrete (get_or bytes j 0) 42))
+pub clear_determined : {bytes before after after' : List ℕ} {from to : ℕ} → Cleared bytes before from to after → length after ≡ length before → Cleared bytes before from to after'
+    → length after' ≡ length before → after ≡ after'
+clear_determined {bytes} {before} {after} {after'} {from} {to} x long y long' = ext_get_or 0 after after' (long ∙ sym long') (λ j low. at j (ℕ_discrete (get_or bytes j 0) 42))
   where
     at : (j : ℕ) → Dec (get_or bytes j 0 ≡ 42) → get_or after j 0 ≡ get_or after' j 0
     at j (yes star) =
@@ -54,24 +55,26 @@ clear_determined {bytes} {before} {after} {after'} {from} {to} x y = ext_get_or 
     at j (no other) = x.signs j other ∙ sym (y.signs j other)
 
 -- `forget`
-pub forget_determined : {before after after' : List ℕ} {from to : ℕ} → Forgotten before from to after → Forgotten before from to after' → after ≡ after'
-forget_determined {before} {after} {after'} {from} {to} x y =
-    ext_get_or 0 after after' (x.long ∙ sym y.long) (λ j low.
+pub forget_determined : {before after after' : List ℕ} {from to : ℕ} → Forgotten before from to after → length after ≡ length before → Forgotten before from to after'
+    → length after' ≡ length before → after ≡ after'
+forget_determined {before} {after} {after'} {from} {to} x long y long' =
+    ext_get_or 0 after after' (long ∙ sym long') (λ j low.
     ⊎_elim
     (λ b. x.none j b.0 b.1 ∙ sym (y.none j b.0 b.1))
     (λ o. x.outside.same j o ∙ sym (y.outside.same j o))
     (between from to j))
 
 -- `renew`
-pub renew_determined : {bound before after after' : List ℕ} {from to : ℕ} → Renewed bound before from to after → Renewed bound before from to after' → after ≡ after'
-renew_determined {bound} {before} {after} {after'} x y = go (ℕ_discrete (own_in bound) (inner_in bound))
+pub renew_determined : {bound before after after' : List ℕ} {from to : ℕ} → Renewed bound before from to after → length after ≡ length before → Renewed bound before from to after'
+    → length after' ≡ length before → after ≡ after'
+renew_determined {bound} {before} {after} {after'} x long y long' = go (ℕ_discrete (own_in bound) (inner_in bound))
   where
     go : Dec (own_in bound ≡ inner_in bound) → after ≡ after'
     go (yes one) = x.same one ∙ sym (y.same one)
-    go (no two) = forget_determined (x.other two) (y.other two)
+    go (no two) = forget_determined (x.other two) long (y.other two) long'
 
 -- `next_turn`
-pub next_turn_determined : {left : Set} {n own own' : ℕ} {bound : List ℕ} (r s : PositionSet) → Proper r → Proper s → Together left n bound own (holds r) → Together left n bound own' (holds s)
+pub next_turn_determined : {left : Set} {n own own' : ℕ} {bound : List ℕ} (r s : PositionSet) → Proper r → Proper s → NextTurn left n bound own (holds r) → NextTurn left n bound own' (holds s)
     → (own ≡ own') × (r ≡ s)
 next_turn_determined {left} {n} {own} {own'} {bound} r s proper proper' x y = go (ℕ_discrete (own_in bound) 0)
   where

@@ -30,7 +30,8 @@ pub fn keep(slots: &mut [u64], i: usize, set: PositionSet)
 // A new run of the walk between two places: what its stars have seen is forgotten.
 pub fn clear(text: &[u8], slots: &mut [u64], from: usize, to: usize)
     requires { (from ≤ to) × (to ≤ length text.now) }
-    ensures { Cleared text.now slots.old from to slots.new }
+    ensures cleared { Cleared text.now slots.old from to slots.new }
+    ensures long { length slots.new ≡ length slots.old }
 {
     let mut i = from;
     while i < to {
@@ -47,7 +48,8 @@ pub fn clear(text: &[u8], slots: &mut [u64], from: usize, to: usize)
 // A new value of a variable: what the part between two places has kept is forgotten, what its tests have told too.
 pub fn forget(slots: &mut [u64], from: usize, to: usize)
     requires { from ≤ to }
-    ensures { Forgotten slots.old from to slots.new }
+    ensures forgotten { Forgotten slots.old from to slots.new }
+    ensures long { length slots.new ≡ length slots.old }
 {
     let mut j = from;
     while j < to {

@@ -209,7 +209,7 @@ some_onward-forget-requires t c =
     (pick_binder c.requires.0 c.requires.1 c.second-last.result c.second-last.ensures).onward
 
 pub some_onward-loop-value-init : goal.some_onward-loop-value-init
-some_onward-loop-value-init t c = (refl, omega arith, posing_start nothing_held c.forget.ensures.none)
+some_onward-loop-value-init t c = (refl, omega arith, posing_start nothing_held c.forget.ensures.forgotten.none)
 
 pub some_onward-rebound-own-requires : goal.some_onward-rebound-own-requires
 some_onward-rebound-own-requires t c = c.place_of-place.ensures.0
@@ -231,7 +231,7 @@ pub some_onward-loop-value-preserved : goal.some_onward-loop-value-preserved
 some_onward-loop-value-preserved t c = (
   c.forget-in-loop-value.auto.slots ∙ c.onward-pass.auto.slots ∙ c.loop-value.invariant.0,
   omega arith,
-  posing_more c.place_of-place.ensures.1 c.rebound-own.ensures c.onward-pass.ensures c.forget-in-loop-value.ensures c.join-reached.ensures c.loop-value.invariant.2,
+  posing_more c.place_of-place.ensures.1 c.rebound-own.ensures c.onward-pass.ensures c.forget-in-loop-value.ensures.forgotten c.join-reached.ensures c.loop-value.invariant.2,
 )
 
 pub some_onward-shape_of-slots : goal.some_onward-shape_of-slots
@@ -239,4 +239,4 @@ some_onward-shape_of-slots t c = c.loop-value.invariant.0 ∙ c.forget.auto.slot
 
 pub some_onward-returns : goal.some_onward-returns
 some_onward-returns t c =
-    posing_done c.requires.1 (pick_binder c.requires.0 c.requires.1 c.second-last.result c.second-last.ensures).here c.turns-many.ensures c.forget.ensures (omega (arith, c.loop-value.invariant.1, c.loop-value-test)) c.loop-value.invariant.2
+    posing_done c.requires.1 (pick_binder c.requires.0 c.requires.1 c.second-last.result c.second-last.ensures).here c.turns-many.ensures c.forget.ensures.forgotten (omega (arith, c.loop-value.invariant.1, c.loop-value-test)) c.loop-value.invariant.2

@@ -54,7 +54,7 @@ here-renew-requires-in-loop-left t c =
 
 pub here-loop-left-smaller : goal.here-loop-left-smaller
 here-loop-left-smaller t c =
-    let turn = c.next_turn-next.ensures in
+    let turn = c.next_turn-next.ensures.together in
     left_falls c.loop-left.left c.next_turn-next.result.these c.without-left-in-loop-left.result turn.some.0 (turn.within turn.some.0 turn.some.1) turn.some.1 c.without-left-in-loop-left.ensures
 
 pub here-loop-left-preserved : goal.here-loop-left-preserved
@@ -62,7 +62,7 @@ here-loop-left-preserved t c =
     let here-part : TestHere c.args.text.now c.args.ends.now (c.args.at + 1) = check_part c.requires.0 c.requires.1 in
     let p = here-part in (
       c.renew-in-loop-left.auto.slots ∙ c.test-there.auto.slots ∙ c.renew.auto.slots ∙ c.loop-left.invariant.0,
-      sifting_more p.marked c.second-end.ensures c.next_turn-next.ensures c.inside-inner.ensures c.renew.ensures c.test-there.ensures c.renew-in-loop-left.ensures c.join-held.ensures c.without-left-in-loop-left.ensures c.loop-left.invariant.1,
+      sifting_more p.marked c.second-end.ensures c.next_turn-next.ensures.together c.inside-inner.ensures c.renew.ensures.renewed c.test-there.ensures c.renew-in-loop-left.ensures.renewed c.join-held.ensures c.without-left-in-loop-left.ensures c.loop-left.invariant.1,
     )
 
 pub here-shape_of-slots : goal.here-shape_of-slots
@@ -99,7 +99,7 @@ some_test-forget-requires t c =
     (exists_binder c.requires.0 c.requires.1 c.second-end.result c.second-end.ensures).onward
 
 pub some_test-loop-next-init : goal.some_test-loop-next-init
-some_test-loop-next-init t c = (refl, omega arith, sorting_start nothing_held c.forget.ensures.none)
+some_test-loop-next-init t c = (refl, omega arith, sorting_start nothing_held c.forget.ensures.forgotten.none)
 
 pub some_test-shape_of-slots-then-is_empty : goal.some_test-shape_of-slots-then-is_empty
 some_test-shape_of-slots-then-is_empty t c =
@@ -107,7 +107,7 @@ some_test-shape_of-slots-then-is_empty t c =
 
 pub some_test-returns-then-is_empty : goal.some_test-returns-then-is_empty
 some_test-returns-then-is_empty t c =
-    sorting_done c.requires.1 (exists_binder c.requires.0 c.requires.1 c.second-end.result c.second-end.ensures).here c.turns-many.ensures c.forget.ensures c.loop-next.invariant.1 (inr (c.is_empty.ensures.0 c.if-is_empty.true)) c.loop-next.invariant.2
+    sorting_done c.requires.1 (exists_binder c.requires.0 c.requires.1 c.second-end.result c.second-end.ensures).here c.turns-many.ensures c.forget.ensures.forgotten c.loop-next.invariant.1 (inr (c.is_empty.ensures.0 c.if-is_empty.true)) c.loop-next.invariant.2
 
 pub some_test-rebound-inner-requires : goal.some_test-rebound-inner-requires
 some_test-rebound-inner-requires t c = c.place_of-place.ensures.0
@@ -129,7 +129,7 @@ pub some_test-loop-next-preserved : goal.some_test-loop-next-preserved
 some_test-loop-next-preserved t c = (
   c.forget-in-loop-next.auto.slots ∙ c.test-there.auto.slots ∙ c.loop-next.invariant.0,
   omega arith,
-  sorting_more c.place_of-place.ensures.1 c.rebound-inner.ensures c.test-there.ensures c.forget-in-loop-next.ensures c.join-found.ensures c.without-left.ensures c.loop-next.invariant.2,
+  sorting_more c.place_of-place.ensures.1 c.rebound-inner.ensures c.test-there.ensures c.forget-in-loop-next.ensures.forgotten c.join-found.ensures c.without-left.ensures c.loop-next.invariant.2,
 )
 
 pub some_test-shape_of-slots : goal.some_test-shape_of-slots
@@ -137,7 +137,7 @@ some_test-shape_of-slots t c = c.loop-next.invariant.0 ∙ c.forget.auto.slots
 
 pub some_test-returns : goal.some_test-returns
 some_test-returns t c =
-    sorting_done c.requires.1 (exists_binder c.requires.0 c.requires.1 c.second-end.result c.second-end.ensures).here c.turns-many.ensures c.forget.ensures c.loop-next.invariant.1 (inl (omega (arith, c.loop-next-test))) c.loop-next.invariant.2
+    sorting_done c.requires.1 (exists_binder c.requires.0 c.requires.1 c.second-end.result c.second-end.ensures).here c.turns-many.ensures c.forget.ensures.forgotten c.loop-next.invariant.1 (inl (omega (arith, c.loop-next-test))) c.loop-next.invariant.2
 
 pub some_walk-returns-then-is_empty : goal.some_walk-returns-then-is_empty
 some_walk-returns-then-is_empty t c = nowhere_walked (c.is_empty.ensures.0 c.if-is_empty.true) nothing_held
@@ -168,7 +168,7 @@ some_walk-forget-requires t c =
     (pick_binder c.requires.0 c.requires.1 c.second-end.result c.second-end.ensures).onward
 
 pub some_walk-loop-value-init : goal.some_walk-loop-value-init
-some_walk-loop-value-init t c = (refl, omega arith, choosing_start nothing_held c.forget.ensures.none)
+some_walk-loop-value-init t c = (refl, omega arith, choosing_start nothing_held c.forget.ensures.forgotten.none)
 
 pub some_walk-rebound-inner-requires : goal.some_walk-rebound-inner-requires
 some_walk-rebound-inner-requires t c = c.place_of-place.ensures.0
@@ -190,7 +190,7 @@ pub some_walk-loop-value-preserved : goal.some_walk-loop-value-preserved
 some_walk-loop-value-preserved t c = (
   c.forget-in-loop-value.auto.slots ∙ c.walk-there.auto.slots ∙ c.loop-value.invariant.0,
   omega arith,
-  choosing_more c.place_of-place.ensures.1 c.rebound-inner.ensures c.walk-there.ensures c.forget-in-loop-value.ensures c.join-found.ensures c.loop-value.invariant.2,
+  choosing_more c.place_of-place.ensures.1 c.rebound-inner.ensures c.walk-there.ensures c.forget-in-loop-value.ensures.forgotten c.join-found.ensures c.loop-value.invariant.2,
 )
 
 pub some_walk-shape_of-slots : goal.some_walk-shape_of-slots
@@ -198,7 +198,7 @@ some_walk-shape_of-slots t c = c.loop-value.invariant.0 ∙ c.forget.auto.slots
 
 pub some_walk-returns : goal.some_walk-returns
 some_walk-returns t c =
-    choosing_done c.requires.1 (pick_binder c.requires.0 c.requires.1 c.second-end.result c.second-end.ensures).here c.turns-many.ensures c.forget.ensures (omega (arith, c.loop-value.invariant.1, c.loop-value-test)) c.loop-value.invariant.2
+    choosing_done c.requires.1 (pick_binder c.requires.0 c.requires.1 c.second-end.result c.second-end.ensures).here c.turns-many.ensures c.forget.ensures.forgotten (omega (arith, c.loop-value.invariant.1, c.loop-value-test)) c.loop-value.invariant.2
 
 pub star-overflow_add-part : goal.star-overflow_add-part
 star-overflow_add-part t c = omega (arith, within c.requires.0.stands, c.well_formed.0.0)
@@ -327,7 +327,7 @@ pub test-returns-in_default : goal.test-returns-in_default
 test-returns-in_default t c =
     let none = c.in_default.in_default-own.rest in
     let sign = last_sign c.requires none.0.0.0.0.0.1 none.0.0.0.0.1 none.0.0.0.1 none.0.0.1 none.0.1 none.1 in
-    diamond_kept c.requires.marked c.second-other-in_default.ensures (holds c.up_to-all.result) sign c.up_to-all.ensures c.test-there-in_default.ensures c.clear.ensures c.walk-starts.ensures c.meet-in_default.ensures
+    diamond_kept c.requires.marked c.second-other-in_default.ensures (holds c.up_to-all.result) sign c.up_to-all.ensures c.test-there-in_default.ensures c.clear.ensures.cleared c.walk-starts.ensures c.meet-in_default.ensures
 
 pub walk-bounds-text-at : goal.walk-bounds-text-at
 walk-bounds-text-at t c = within c.requires.stands

@@ -11,8 +11,8 @@ loop-i-init c =
     let a = c.args in
     (omega arith, omega (arith, c.requires.0), refl, cleared_none a.text.now a.slots.now a.from)
 
-pub returns-then-slots-i : goal.returns-then-slots-i
-returns-then-slots-i c =
+pub returns-then-slots-i-clause-cleared : goal.returns-then-slots-i-clause-cleared
+returns-then-slots-i-clause-cleared c =
     let k = c.loop-i in
     cleared_end c.args.text.now c.args.slots.now c.args.from c.if-slots-i.true (omega arith) k.invariant.3
 
@@ -30,7 +30,7 @@ loop-i-preserved c =
       | else-text-i-eq42 w ↦ rw w.slots-is (omega arith, omega arith, k.invariant.2, cleared_past a.text.now a.slots.now a.from w.if-text-i-eq42.false k.invariant.3)
     ]
 
-pub returns : goal.returns
-returns c =
+pub returns-clause-cleared : goal.returns-clause-cleared
+returns-clause-cleared c =
     let k = c.loop-i in
     cleared_to c.args.text.now c.args.slots.now c.args.from (omega arith) k.invariant.3

@@ -10,8 +10,8 @@ loop-j-init c =
     let a = c.args in
     (omega arith, c.requires, refl, forgotten_none a.slots.now a.from)
 
-pub returns-then-slots-j : goal.returns-then-slots-j
-returns-then-slots-j c =
+pub returns-then-slots-j-clause-forgotten : goal.returns-then-slots-j-clause-forgotten
+returns-then-slots-j-clause-forgotten c =
     let k = c.loop-j in
     forgotten_end c.args.slots.now c.args.from c.if-slots-j.true (omega arith) k.invariant.3
 
@@ -21,7 +21,7 @@ loop-j-preserved c =
     let a = c.args in
     (omega arith, omega arith, length-set k.slots k.j 0 ∙ k.invariant.2, forgotten_one a.slots.now a.from k.invariant.0 (omega arith) k.invariant.3)
 
-pub returns : goal.returns
-returns c =
+pub returns-clause-forgotten : goal.returns-clause-forgotten
+returns-clause-forgotten c =
     let k = c.loop-j in
     forgotten_to c.args.slots.now c.args.from (omega arith) k.invariant.3
