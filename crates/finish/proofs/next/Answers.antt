@@ -12,7 +12,6 @@ use Rattle.finish.proofs.LeftOut.{begin_come}
 use Rattle.finish.proofs.Filled.{all_allowed}
 use Rattle.finish.proofs.next.Goals as goal
 
--- ? helper told not at a place
 
 pub coming-requires : goal.coming-requires
 coming-requires c =
