@@ -11,8 +11,8 @@ use refusal::Refusal;
 use theory::{ACTION_LIMIT, Check, Counts, Setting, faults};
 
 // The record that the scheduler lends. Any bytes are a record; one that the library did not make is taken by its fields as they stand.
-#[repr(C)]
 #[derive(Clone, Copy)]
+#[repr(C)]
 pub struct Tally {
     // how often each action was taken, and the position after its last time
     pub counts: [u8; ACTION_LIMIT],
