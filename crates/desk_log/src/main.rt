@@ -1,7 +1,7 @@
 #![tactic(auto)]
 // The desk for packers: reads the log on standard input, on each line a label's number or the word void, and answers each line: whether it was in order, and
 // which label comes next. How many cartons there are is the argument.
-ghost use Rattle.std.specs.Prelude.{◌≡◌, ◌↔◌, true, ◌≤◌, length, take, IfOk, OnErr};
+ghost use Rattle.std.specs.Prelude.{◌≡◌, ◌↔◌, true, ◌≤◌, length, take};
 ghost use Rattle.desk.specs.Log.{carton_limit, step_limit, void_of};
 ghost use Rattle.desk_log.specs.Reply.{Kept, InOrder, NextIs};
 
@@ -9,7 +9,6 @@ mod entry; // entry.rt: what a line says
 
 use desk::{CARTON_LIMIT, LOG_LIMIT};
 use std::env::Env;
-use std::io;
 use std::io::Read;
 
 // So much of a line is kept: a byte more than the longest entry has, so that a longer line is seen to be none.
@@ -17,6 +16,11 @@ const LINE_ROOM: usize = 5;
 
 // So much of an argument, for the same reason.
 const WORD_ROOM: usize = 3;
+
+// An answer that cannot be written is no fault of the program: who reads the answers sees that.
+fn say(rt: &impl Print, text: &[u8]) {
+    let _ = rt.write_all(text);
+}
 
 // A print is in order if the label may be printed; a void always is.
 fn in_order(cartons: usize, log: &[u8], action: usize) -> bool
@@ -41,49 +45,42 @@ fn next(cartons: usize, log: &[u8]) -> usize
     label
 }
 
-fn say_next(rt: &impl Print, label: usize) -> io::Result<()> {
+fn say_next(rt: &impl Print, label: usize) {
     if label == 0 {
-        return rt.write_all(b"all are out\n");
+        say(rt, b"all are out\n");
+        return;
     }
-    println!(rt; "next is {label}")
+    let _ = println!(rt; "next is {label}");
 }
 
 // One line, put to the log and answered; how many steps the log has then. What is no entry, or finds the log full, is not put to it.
-fn heard(
-    rt: &impl Print,
-    cartons: usize,
-    log: &mut [u8],
-    steps: usize,
-    line: &[u8],
-) -> io::Result<usize>
+fn heard(rt: &impl Print, cartons: usize, log: &mut [u8], steps: usize, line: &[u8]) -> usize
     requires { (length log.old ≡ step_limit) × (steps ≤ step_limit) × Kept cartons (take steps log.old) }
-    ensures ok { IfOk result (λ after. (length log.new ≡ step_limit) × (after ≤ step_limit) × Kept cartons (take after log.new)) }
-    // An answer that could not be written leaves the steps before it.
-    ensures err { OnErr result ((length log.new ≡ step_limit) × Kept cartons (take steps log.new)) }
+    ensures { (length log.new ≡ step_limit) × (result ≤ step_limit) × Kept cartons (take result log.new) }
 {
     let action = entry::action(cartons, line);
     if cartons < action {
-        rt.write_all(b"not counted: neither a label nor void\n")?;
-        return Ok(steps);
+        say(rt, b"not counted: neither a label nor void\n");
+        return steps;
     }
     if LOG_LIMIT <= steps {
-        rt.write_all(b"not counted: the log is full\n")?;
-        return Ok(steps);
+        say(rt, b"not counted: the log is full\n");
+        return steps;
     }
     if in_order(cartons, &log[..steps], action) {
-        rt.write_all(b"in order, ")?;
+        say(rt, b"in order, ");
     } else {
-        rt.write_all(b"out of order, ")?;
+        say(rt, b"out of order, ");
     }
     log[steps] = action as u8;
     let after = steps + 1;
     let label = next(cartons, &log[..after]);
-    say_next(rt, label)?;
-    Ok(after)
+    say_next(rt, label);
+    after
 }
 
-// Line by line to the end of input, or to a byte that cannot be read, or an answer that cannot be written.
-fn listen(rt: &(impl Input + Print), cartons: usize) -> io::Result<()>
+// Line by line to the end of input, or to a byte that cannot be read.
+fn listen(rt: &(impl Input + Print), cartons: usize)
     requires { (1 ≤ cartons) × (cartons ≤ carton_limit) }
 {
     let mut log = [0u8; LOG_LIMIT];
@@ -95,7 +92,7 @@ fn listen(rt: &(impl Input + Print), cartons: usize) -> io::Result<()>
             break;
         };
         if b == b'\n' {
-            steps = heard(rt, cartons, &mut log, steps, &line[..n])?;
+            steps = heard(rt, cartons, &mut log, steps, &line[..n]);
             n = 0;
         } else if n < LINE_ROOM {
             line[n] = b;
@@ -103,19 +100,17 @@ fn listen(rt: &(impl Input + Print), cartons: usize) -> io::Result<()>
         }
     }
     if n > 0 {
-        heard(rt, cartons, &mut log, steps, &line[..n])?;
+        heard(rt, cartons, &mut log, steps, &line[..n]);
     }
-    Ok(())
 }
 
-// Ends quietly where an answer cannot be written: who reads the answers sees that.
 fn main(rt: HostRuntime) {
     let mut word = [0u8; WORD_ROOM];
     let n = rt.arg(1, &mut word).unwrap_or(0);
     let cartons = entry::label(CARTON_LIMIT, &word[..n]);
     if cartons == 0 {
-        let _ = rt.write_all(b"refused=3\n");
+        say(&rt, b"refused=3\n");
         return;
     }
-    let _ = listen(&rt, cartons);
+    listen(&rt, cartons);
 }
