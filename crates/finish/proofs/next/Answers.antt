@@ -12,7 +12,6 @@ use Rattle.finish.proofs.LeftOut.{begin_come}
 use Rattle.finish.proofs.Filled.{all_allowed}
 use Rattle.finish.proofs.next.Goals as goal
 
-
 pub coming-requires : goal.coming-requires
 coming-requires c =
     let subject : Subject = subject_of c.args.s c.args.masks.now c.args.log.now in
