@@ -7,7 +7,8 @@ from pathlib import Path
 NAME = re.compile(r'[^\s(){}.;,@"«»]+')
 WORD = re.compile(r"[A-Za-z_]\w*")
 USE = re.compile(r"^[ \t]*(?P<shown>pub\s+)?(?P<ghost>ghost\s+)?use\s+(?P<path>[^\s{};]+?)(?:(?:\.|::)\{(?P<names>[^}]*)\})?(?:\s+as\s+(?P<alias>[^\s;]+))?[ \t]*;?[ \t]*$", re.M)
-CLAUSE = re.compile(r"\b(?:requires|ensures)\b[^{;]*\{")
+# a requires, an ensures, or what a ghost field or member of an impl is
+CLAUSE = re.compile(r"\b(?:requires\b|ensures\b|ghost (?!use\b)\w+ ?[:=])[^{;]*\{")
 
 
 @dataclass

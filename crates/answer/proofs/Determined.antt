@@ -4,8 +4,7 @@ use mathlib.Core.Logic.{◌↔◌}
 use mathlib.Core.Bool.{Bool, true, false, false≢true}
 use mathlib.Core.List.{List, [], ◌++◌}
 use mathlib.Core.Option.{Option, some, none, none-ne-some, some-injective}
-use Prim.Native.Nat.{ℕ, ◌≤◌}
-use native.Mathlib.Omega.{arith}
+use Prim.Native.Nat.{ℕ}
 use lib.ListN.{length, take, drop, take-append-drop}
 use lib.Seq.{length-take-le}
 use Rattle.meaning.specs.Theory.{World}
@@ -15,12 +14,12 @@ use Rattle.meaning.proofs.Reading.{unique_reading}
 use Rattle.meaning.proofs.Finish.{first_unique, first_not_none}
 use Rattle.sheet.specs.Lines.{Sheet}
 use Rattle.sheet.proofs.Determined.{one_refusal, one_saying, refused_or_says}
-use Rattle.meaning.specs.Limits.{more_limit}
 use Rattle.refusal.proofs.Numbers.{one_number}
-use Rattle.answer.specs.declared.Outcome.{Outcome}
-use Rattle.answer.specs.declared.Said.{Said}
-use Rattle.answer.specs.declared.Said.TheVariants.{Refused, Unfinished, Finished}
-use Rattle.answer.specs.Outcome.{Told, refused, answered, world_in, end_of, FirstOrNone, Answers, OutcomeIs, told_of, used_by, no_steps, Decided}
+use Rattle.std.specs.Prelude.{Option as RustOption, Some, None, Result, Ok, Err, IfOk, IfSome}
+use Rattle.sheet_lines.specs.declared.Fault.{Fault}
+use Rattle.answer.specs.declared.Answered.{Answered}
+use Rattle.answer.specs.declared.Ending.{Ending}
+use Rattle.answer.specs.Outcome.{Told, refused, answered, world_in, end_of, FirstOrNone, Answers, OutcomeIs, ending_of, told_of, no_steps, Ended, Decided}
 use Rattle.answer.specs.Text.{text_of}
 use Rattle.answer.specs.Written.{AnswerWritten}
 
@@ -90,37 +89,31 @@ answer_determined sheet before after after' n n' p q =
     (p.fronts ∙ ap (λ t. t ++ drop (length t) before) e ∙ sym q.fronts, p.counted ∙ ap length e ∙ sym q.counted)
 
 -- So is the value: what is said, and every place of the sequence.
-record Same (said said' : Said) (ending ending' : List ℕ) : Type 0 where
-  saids : said ≡ said'
-  endings : ending ≡ ending'
-
 whole : (n : ℕ) (xs ys : List ℕ) → take n xs ≡ take n ys → drop n xs ≡ drop n ys → xs ≡ ys
 whole n xs ys t d = sym (take-append-drop n xs) ∙ ap₂ (λ (a b : List ℕ). a ++ b) t d ∙ take-append-drop n ys
 
-same_value : (said said' : Said) (ending ending' : List ℕ) → length ending ≡ more_limit → length ending' ≡ more_limit → used_by said ≤ more_limit → used_by said' ≤ more_limit
-    → drop (used_by said) ending ≡ drop (used_by said) no_steps → drop (used_by said') ending' ≡ drop (used_by said') no_steps
-    → told_of said ending ≡ told_of said' ending' → Same said said' ending ending'
-same_value (Refused f) (Refused g) e e' l l' k k' d d' t =
+same_ending : (a b : RustOption Ending) → IfSome a Ended → IfSome b Ended → ending_of a ≡ ending_of b → a ≡ b
+same_ending None None x y t = refl
+same_ending None (Some e) x y t = absurd (none-ne-some _ t)
+same_ending (Some d) None x y t = absurd (none-ne-some _ (sym t))
+same_ending (Some d) (Some e) x y t =
+    let front : take d.count d.steps ≡ take e.count e.steps = some-injective _ _ t in
+    let same : d.count ≡ e.count = sym (length-take-le d.count d.steps x.within) ∙ ap length front ∙ length-take-le e.count e.steps y.within in
+    let steps : d.steps ≡ e.steps =
+    whole d.count d.steps e.steps (front ∙ ap (λ (j : ℕ). take j e.steps) (sym same)) (x.spare ∙ ap (λ (j : ℕ). drop j no_steps) same ∙ sym y.spare ∙ ap (λ (j : ℕ). drop j e.steps) (sym same)) in
+    λ i. Some (record { steps = steps i; count = same i })
+
+same_value : (o o' : Result Answered Fault) → IfOk o (λ a. IfSome a.finish Ended) → IfOk o' (λ a. IfSome a.finish Ended) → told_of o ≡ told_of o' → o ≡ o'
+same_value (Err f) (Err g) x y t =
     let both = refused_parts t in
     let why = one_number f.refusal g.refusal both.0 in
-    record { saids = λ i. Refused (record { refusal = why i; line = both.1 i }); endings = d ∙ sym d' }
-same_value (Refused f) (Unfinished v s) e e' l l' k k' d d' t = absurd (not_answered t)
-same_value (Refused f) (Finished v s n) e e' l l' k k' d d' t = absurd (not_answered t)
-same_value (Unfinished v s) (Refused f) e e' l l' k k' d d' t = absurd (not_answered (sym t))
-same_value (Finished v s n) (Refused f) e e' l l' k k' d d' t = absurd (not_answered (sym t))
-same_value (Unfinished v s) (Unfinished v' s') e e' l l' k k' d d' t =
-    let both = answered_parts t in
-    record { saids = ap₂ Unfinished both.0 both.1; endings = d ∙ sym d' }
-same_value (Unfinished v s) (Finished v' s' n) e e' l l' k k' d d' t = absurd (none-ne-some _ (answered_parts t).2)
-same_value (Finished v s n) (Unfinished v' s') e e' l l' k k' d d' t = absurd (none-ne-some _ (sym (answered_parts t).2))
-same_value (Finished v s n) (Finished v' s' m) e e' l l' k k' d d' t =
-    let both = answered_parts t in
-    let front : take n e ≡ take m e' = some-injective _ _ both.2 in
-    let same : n ≡ m = sym (length-take-le n e (omega arith)) ∙ ap length front ∙ length-take-le m e' (omega arith) in
-    let ends = whole n e e' (front ∙ ap (λ (j : ℕ). take j e') (sym same)) (d ∙ ap (λ (j : ℕ). drop j no_steps) same ∙ sym d' ∙ ap (λ (j : ℕ). drop j e') (sym same)) in
-    record { saids = λ i. Finished (both.0 i) (both.1 i) (same i); endings = ends }
+    λ i. Err (record { refusal = why i; line = both.1 i })
+same_value (Err f) (Ok b) x y t = absurd (not_answered t)
+same_value (Ok a) (Err g) x y t = absurd (not_answered (sym t))
+same_value (Ok a) (Ok b) x y t =
+    let parts = answered_parts t in
+    let ends = same_ending a.finish b.finish x y parts.2 in
+    λ i. Ok (record { yes = parts.0 i; state = parts.1 i; finish = ends i })
 
-pub outcome_determined : (bytes : List ℕ) (o o' : Outcome) → length o.ending ≡ more_limit → length o'.ending ≡ more_limit → Decided bytes o → Decided bytes o' → o ≡ o'
-outcome_determined bytes o o' l l' x y =
-    let same = same_value o.said o'.said o.ending o'.ending l l' x.few y.few x.spare y.spare (one_told bytes _ _ x.is y.is) in
-    λ i. record { said = same.saids i; ending = same.endings i }
+pub outcome_determined : (bytes : List ℕ) (o o' : Result Answered Fault) → Decided bytes o → Decided bytes o' → o ≡ o'
+outcome_determined bytes o o' x y = same_value o o' x.ends y.ends (one_told bytes _ _ x.is y.is)

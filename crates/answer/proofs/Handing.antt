@@ -2,12 +2,11 @@
 -- written.
 use mathlib.Core.Path.{◌≡◌, refl, sym, ap, subst, ◌∙◌}
 use mathlib.Core.List.{List}
-use mathlib.Core.Option.{some, none}
 use Prim.Native.Nat.{ℕ, ◌*◌, ◌≤◌, ◌<◌}
 use native.Mathlib.Omega.{arith}
-use lib.ListN.{length, take, drop, length-append, length-take}
+use lib.ListN.{length, take, drop, length-append}
 use lib.Seq.{take_at}
-use Rattle.meaning.specs.Limits.{action_limit, more_limit}
+use Rattle.meaning.specs.Limits.{action_limit}
 use Rattle.meaning.specs.Theory.{stride}
 use Rattle.theory.specs.Subject.{subject_of}
 use Rattle.theory.proofs.Reading.{checked}
@@ -18,18 +17,18 @@ use Rattle.sheet.specs.Legal.{Legal}
 use Rattle.sheet.specs.declared.Parsed.{Parsed}
 use Rattle.sheet.proofs.Accepted.{legal as sheet-legal}
 use Rattle.sheet.proofs.Places.{standing, place_small}
-use Rattle.answer.specs.declared.Outcome.{Outcome}
-use Rattle.answer.specs.declared.Said.{Said}
-use Rattle.answer.specs.declared.Said.TheVariants.{Refused, Unfinished, Finished}
+use Rattle.std.specs.Prelude.{Result, Ok, Err, IfOk, IfErr, IfSome}
+use Rattle.sheet_lines.specs.declared.Fault.{Fault}
+use Rattle.answer.specs.declared.Answered.{Answered}
 use Rattle.refusal.specs.Number.{number_of}
 use Rattle.spelling.specs.Wrote.{Wrote}
 use Rattle.spelling.proofs.Writing.{wrote_front}
 use Rattle.answer.specs.Written.{AnswerWritten}
-use Rattle.answer.specs.Outcome.{OutcomeIs, Decided, told_of, used_by}
+use Rattle.answer.specs.Outcome.{OutcomeIs, Decided, Ended, ending_of, told_of}
 use Rattle.answer.specs.Text.{text_of}
-use Rattle.answer.specs.Respond.{saying, Askable, Responded, line_of}
+use Rattle.answer.specs.Respond.{saying, Askable, Responded}
 use Rattle.answer.proofs.Asking.{askable}
-use Rattle.answer.proofs.Lengths.{answer_length, refusal_length, number_small}
+use Rattle.answer.proofs.Lengths.{short_ending, answer_length, refusal_length, number_small}
 
 -- the parts of an accepted sheet, as they are handed back
 pub record Given (bytes : List ℕ) (p : Parsed) (masks log : List ℕ) : Type 0 where
@@ -88,35 +87,29 @@ module _ {bytes : List ℕ} {p : Parsed} {masks log : List ℕ} (g : Given bytes
       subst Askable (sym same) (askable (unplaced g.sheet) (record { world = l.world; ask = l.ask; run = l.run; more = l.more }))
 
   -- what was responded is the outcome of the sheet
-  pub decided : (o : Outcome) → Responded passed o → Decided bytes o
-  decided o r =
-      let t = subst (λ s. Responded s o) same r in
-      let a = t.answers in
+  pub decided : (a : Answered) → Responded passed a → Decided bytes (Ok a)
+  decided a r =
+      let t = subst (λ s. Responded s a) same r in
+      let all = t.answers in
       record {
         is =
-            subst (OutcomeIs bytes) (sym t.told)
-            (g.sheet, g.says, record { ask = a.ask; asked = a.asked; job = a.job; ordered = a.ordered; truth = a.truth; last = a.last; finished = a.finished });
-        spare = t.spare;
-        few = t.few;
-        within = t.within;
+            (g.sheet, g.says, record { ask = all.ask; asked = all.asked; job = all.job; ordered = all.ordered; truth = all.truth; last = all.last; finished = all.finished });
+        ends = t.ends;
       }
 
 -- every outcome of a sheet can be written
-pub writable : (bytes : List ℕ) (said : Said) (ending : List ℕ) → OutcomeIs bytes (told_of said ending) → line_of said < 1000
-writable bytes (Refused f) ending is = place_small bytes _ _ is
-writable bytes (Unfinished verdict state) ending is = omega arith
-writable bytes (Finished verdict state count) ending is = omega arith
+pub writable : (bytes : List ℕ) (outcome : Result Answered Fault) → OutcomeIs bytes (told_of outcome) → IfErr outcome (λ f. f.line < 1000)
+writable bytes (Err f) is = place_small bytes _ _ is
+writable bytes (Ok a) is = tt
 
 -- and its text fits
-fitting : (bytes : List ℕ) (said : Said) (ending : List ℕ) → OutcomeIs bytes (told_of said ending) → used_by said ≤ more_limit → length (text_of (told_of said ending)) ≤ 47
-fitting bytes (Refused f) ending is few =
-    omega (arith, refusal_length (number_of f.refusal) f.line (number_small f.refusal) (place_small bytes _ _ is))
-fitting bytes (Unfinished verdict state) ending is few = answer_length verdict state none tt
-fitting bytes (Finished verdict state count) ending is few = answer_length verdict state (some (take count ending)) (simp length-take (omega arith))
+fitting : (bytes : List ℕ) (outcome : Result Answered Fault) → OutcomeIs bytes (told_of outcome) → IfOk outcome (λ a. IfSome a.finish Ended) → length (text_of (told_of outcome)) ≤ 47
+fitting bytes (Err f) is ends = omega (arith, refusal_length (number_of f.refusal) f.line (number_small f.refusal) (place_small bytes _ _ is))
+fitting bytes (Ok a) is ends = answer_length a.yes a.state (ending_of a.finish) (short_ending a.finish ends)
 
 -- so that what is written stands at the front
-pub written : (bytes : List ℕ) (said : Said) (ending : List ℕ) → OutcomeIs bytes (told_of said ending) → used_by said ≤ more_limit
-    → {before after : List ℕ} {n : ℕ} → 47 ≤ length before → Wrote before 0 (text_of (told_of said ending)) after n → AnswerWritten bytes before after n
-written bytes said ending is few long w =
-    let front = wrote_front (omega (arith, long, fitting bytes said ending is few)) w in
-    record { told = told_of said ending; outcome = is; fronts = front.0; counted = front.1 }
+pub written : (bytes : List ℕ) (outcome : Result Answered Fault) → Decided bytes outcome
+    → {before after : List ℕ} {n : ℕ} → 47 ≤ length before → Wrote before 0 (text_of (told_of outcome)) after n → AnswerWritten bytes before after n
+written bytes outcome d long w =
+    let front = wrote_front (omega (arith, long, fitting bytes outcome d.is d.ends)) w in
+    record { told = told_of outcome; outcome = d.is; fronts = front.0; counted = front.1 }

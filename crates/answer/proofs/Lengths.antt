@@ -5,7 +5,7 @@ use mathlib.Core.List.{List}
 use mathlib.Core.Option.{Option, some, none}
 use Prim.Native.Nat.{ℕ, ◌≤◌, ◌<◌}
 use native.Mathlib.Omega.{arith}
-use lib.ListN.{length, length-append}
+use lib.ListN.{length, length-append, length-take}
 use Rattle.refusal.specs.Number.{number_of}
 use Rattle.refusal.proofs.Numbers.{number_low}
 use Rattle.refusal.specs.declared.Refusal.{Refusal}
@@ -13,6 +13,9 @@ use Rattle.meaning.specs.Limits.{more_limit}
 use Rattle.spelling.specs.Numeral.{hex8}
 use Rattle.spelling.proofs.Numeral.{length_numeral}
 use Rattle.spelling.proofs.LogText.{log_long}
+use Rattle.std.specs.Prelude.{Option as RustOption, Some, None, IfSome}
+use Rattle.answer.specs.declared.Ending.{Ending}
+use Rattle.answer.specs.Outcome.{Ended, ending_of}
 use Rattle.answer.specs.Text.{line, yes_no, finish_text, answer_text, refusal_text}
 use Rattle.spelling.proofs.Plain.{length_decimal}
 
@@ -31,6 +34,13 @@ Short none = Unit {0}
 finish_length : (finish : Option (List ℕ)) → Short finish → length (line "finish=" (finish_text finish)) ≤ 20
 finish_length (some ending) short = simp length-append (omega (arith, log_long ending))
 finish_length none short = omega arith
+
+pub short_ending : (ending : RustOption Ending) → IfSome ending Ended → Short (ending_of ending)
+short_ending None ends = tt
+short_ending (Some e) ends = let few = ends.few in simp length-take (omega arith)
+
+pub ending_length : (ending : RustOption Ending) → IfSome ending Ended → length (finish_text (ending_of ending)) ≤ 12
+ending_length ending ends = omega (arith, simp length-append at (finish_length (ending_of ending) (short_ending ending ends)))
 
 pub answer_length : (verdict : Bool) (word : ℕ) (finish : Option (List ℕ)) → Short finish → length (answer_text verdict word finish) ≤ 47
 unfolding answer_text

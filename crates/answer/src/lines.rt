@@ -1,12 +1,18 @@
 // The lines that are printed, each ended by one LF. Knows no sheet.
-ghost use Rattle.std.proofs.Math.Option.{some, none};
-ghost use Rattle.std.specs.Prelude.{◌+◌, ◌*◌, ◌≤◌, ◌<◌, length};
+ghost use Rattle.std.specs.Prelude.{◌≡◌, ◌+◌, ◌≤◌, ◌<◌, length, IfSome};
 ghost use Rattle.spelling.specs.Numeral.{hex8};
-ghost use Rattle.meaning.specs.Limits.{more_limit};
+ghost use Rattle.answer.specs.Outcome.{Ended, ending_of};
 ghost use Rattle.answer.specs.Text.{line, yes_no, finish_text, answer_text, refusal_text};
 ghost use Rattle.spelling.specs.Wrote.{Wrote};
 
+use crate::{Answered, Ending};
 use spelling::put;
+
+fn yes_or_no(yes: bool) -> &'static [u8]
+    ensures { result.now ≡ yes_no yes }
+{
+    if yes { b"yes" } else { b"no" }
+}
 
 // The verdict.
 pub(crate) fn verdict(out: &mut [u8], to: usize, yes: bool) -> usize
@@ -14,11 +20,7 @@ pub(crate) fn verdict(out: &mut [u8], to: usize, yes: bool) -> usize
     ensures { Wrote out.old to (line "verdict=" (yes_no yes)) out.new result }
 {
     let value = put::text(out, to, b"verdict=");
-    if yes {
-        let end = put::text(out, value, b"yes");
-        return put::text(out, end, b"\n");
-    }
-    let end = put::text(out, value, b"no");
+    let end = put::text(out, value, yes_or_no(yes));
     put::text(out, end, b"\n")
 }
 
@@ -32,23 +34,24 @@ pub(crate) fn state(out: &mut [u8], to: usize, word: u32) -> usize
     put::text(out, end, b"\n")
 }
 
-// The sequence that finishes the job.
-pub(crate) fn finish(out: &mut [u8], to: usize, ending: &[u8]) -> usize
-    requires { to + 2 * length ending.now + 8 ≤ length out.old }
-    ensures { Wrote out.old to (line "finish=" (finish_text (some ending.now))) out.new result }
+// A sequence as two digits an action, or that there is none.
+fn sequence(out: &mut [u8], to: usize, ending: Option<Ending>) -> usize
+    requires { IfSome ending Ended × (to + 12 ≤ length out.old) }
+    ensures { Wrote out.old to (finish_text (ending_of ending)) out.new result }
 {
-    let value = put::text(out, to, b"finish=");
-    let end = put::actions(out, value, ending);
-    put::text(out, end, b"\n")
+    match ending {
+        Some(e) => put::actions(out, to, &e.steps[..e.count]),
+        None => put::text(out, to, b"none"),
+    }
 }
 
-// That no sequence finishes the job.
-pub(crate) fn no_finish(out: &mut [u8], to: usize) -> usize
-    requires { to + 12 ≤ length out.old }
-    ensures { Wrote out.old to (line "finish=" (finish_text none)) out.new result }
+// The sequence that finishes the job, or that none does.
+pub(crate) fn finish(out: &mut [u8], to: usize, ending: Option<Ending>) -> usize
+    requires { IfSome ending Ended × (to + 20 ≤ length out.old) }
+    ensures { Wrote out.old to (line "finish=" (finish_text (ending_of ending))) out.new result }
 {
     let value = put::text(out, to, b"finish=");
-    let end = put::text(out, value, b"none");
+    let end = sequence(out, value, ending);
     put::text(out, end, b"\n")
 }
 
@@ -64,22 +67,12 @@ pub(crate) fn refusal(out: &mut [u8], number: u32, place: u32) -> usize
     put::text(out, end, b"\n")
 }
 
-// The answer to a sheet whose job can be finished.
-pub(crate) fn finished(out: &mut [u8], yes: bool, word: u32, ending: &[u8]) -> usize
-    requires { (length ending.now ≤ more_limit) × (47 ≤ length out.old) }
-    ensures { Wrote out.old 0 (answer_text yes word (some ending.now)) out.new result }
+// The answer to an accepted sheet.
+pub(crate) fn answered(out: &mut [u8], a: Answered) -> usize
+    requires { IfSome a.finish Ended × (47 ≤ length out.old) }
+    ensures { Wrote out.old 0 (answer_text a.yes a.state (ending_of a.finish)) out.new result }
 {
-    let second = verdict(out, 0, yes);
-    let third = state(out, second, word);
-    finish(out, third, ending)
-}
-
-// The answer to a sheet whose job cannot be finished.
-pub(crate) fn unfinished(out: &mut [u8], yes: bool, word: u32) -> usize
-    requires { 47 ≤ length out.old }
-    ensures { Wrote out.old 0 (answer_text yes word none) out.new result }
-{
-    let second = verdict(out, 0, yes);
-    let third = state(out, second, word);
-    no_finish(out, third)
+    let second = verdict(out, 0, a.yes);
+    let third = state(out, second, a.state);
+    finish(out, third, a.finish)
 }

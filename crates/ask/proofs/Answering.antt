@@ -1,6 +1,6 @@
 -- What the evaluator finds from one position is what reach and verdict promise. Knows position sets by the positions that they hold.
 use mathlib.Core.Path.{◌≡◌, refl, sym, subst}
-use mathlib.Core.Logic.{inl, inr, ◌↔◌}
+use mathlib.Core.Logic.{◌↔◌}
 use mathlib.Core.Bool.{Bool, true, false, ◌&&◌}
 use mathlib.Core.List.{List}
 use mathlib.Core.Option.{some}
@@ -8,7 +8,6 @@ use Prim.Native.Nat.{ℕ, ◌≤◌}
 use native.Mathlib.Omega.{arith}
 use lib.Dec.{eqb, ltb}
 use lib.ListN.{length}
-use Rattle.laws.proofs.Truth.{off_on}
 use Rattle.meaning.specs.Limits.{places, text_limit}
 use Rattle.meaning.specs.Rule.{Kind, Walk, Test, of_walk, of_test, walk_kind, test_kind}
 use Rattle.meaning.specs.Leads.{Leads, Holds}
@@ -17,6 +16,7 @@ use Rattle.meaning.specs.Refusal.{Accepted}
 use Rattle.positions.specs.declared.PositionSet.{PositionSet}
 use Rattle.positions.specs.Positions.{holds}
 use Rattle.theory.specs.Subject.{Subject, counts_of, world_of}
+use Rattle.theory.proofs.Verdict.{told}
 use Rattle.grammar.specs.Ends.{FillOutcome}
 use Rattle.grammar.specs.Standing.{Stands, Ends}
 use Rattle.grammar.proofs.Widths.{ends_told}
@@ -26,7 +26,7 @@ use Rattle.runs.specs.Found.{WalkHere, TestHere, Tabled, WalkFound, TestFound}
 use Rattle.ask.specs.Rows.{ask_rows}
 use Rattle.ask.specs.LaidOut.{no_ends, LaidOut}
 use Rattle.ask.specs.Reach.{WalkReached}
-use Rattle.ask.specs.Verdict.{Verdict, TestJudged, SoundTest, TestTold}
+use Rattle.ask.specs.Verdict.{TestJudged, SoundTest, TestTold}
 use Rattle.runs.proofs.Bound.{bears_none}
 use Rattle.runs.proofs.Loops.{one_there}
 use Rattle.ask.proofs.Asking.{stands_first, asked_readable, asked_times, asked_walk, asked_test, known_test}
@@ -102,13 +102,7 @@ module _ {s : Subject} {bytes ends rows : List ℕ} {then now : ℕ} where
       → (has : Bool) → has ≡ holds kept then → TestJudged s bytes then now (some has)
   verdict_right a laid one kept at f has e =
       let (t, o) = asked_test a in
-      let (into, out) = kept_there a laid one at kept t (stands_first o) f in
-      record { test = t; spells = o; judged = go t into out has e }
-    where
-      go : (t : Test) → (holds kept then ≡ true → Holds (world_of s) t then now) → (Holds (world_of s) t then now → holds kept then ≡ true)
-          → (has : Bool) → has ≡ holds kept then → Verdict (world_of s) t then now (some has)
-      go t into out true e = inl (refl, into (sym e))
-      go t into out false e = inr (refl, λ h. off_on (sym e) (out h))
+      record { test = t; spells = o; judged = told has (rw e (kept_there a laid one at kept t (stands_first o) f)) }
 
 -- whichever log the rows are of
 pub test_told : {bytes ends rows : List ℕ} {domain reading then now : ℕ} → Ends bytes ends → (one kept : PositionSet)

@@ -1,7 +1,9 @@
 -- Which refusal a question is given, from what the checks of theory, log, rule and times find; and what an accepted question tells. Knows the rows' order;
 -- opens refusals 3, 6 and 10.
+use Rattle.std.specs.Prelude.{Result, Ok, Err}
+use Rattle.refusal.specs.declared.Refusal.{Refusal}
 use mathlib.Core.Path.{ap}
-use mathlib.Core.Logic.{◌⊎◌, inl, inr, ⊎_elim}
+use mathlib.Core.Logic.{◌⊎◌, inl, inr}
 use mathlib.Core.Bool.{true}
 use mathlib.Core.List.{List, [], ◌∷◌, ◌++◌}
 use Prim.Native.Nat.{ℕ, ◌≤◌, ◌<◌}
@@ -10,10 +12,11 @@ use lib.ListN.{length}
 use Rattle.meaning.specs.Limits.{text_limit}
 use Rattle.meaning.specs.Rule.{Kind, test_kind, walk_kind, Walk, Test, Rule, of_test, of_walk, Opens}
 use Rattle.meaning.specs.Refusal.{Row, Refused, Accepted, BadRule, BadTimes}
-use Rattle.meaning.proofs.Refusal.{here, passes, accepts, not_first, not_rest, rest_refused, refused_first, refused_second, accepted_both, accepted_parts}
+use Rattle.meaning.proofs.Refusal.{not_first, not_rest, rest_refused, refused_first, refused_second, accepted_both, accepted_parts}
 use Rattle.meaning.proofs.Reading.{opens?, unique_reading}
 use Rattle.theory.specs.Subject.{Subject, Readable, counts_of}
 use Rattle.theory.specs.Rows.{world_rows}
+use Rattle.theory.specs.Check.{Settled}
 use Rattle.theory.proofs.Reading.{checked, readable}
 use Rattle.rule.specs.Outcome.{text_rows, rule_rows}
 use Rattle.grammar.specs.Standing.{Stands}
@@ -35,14 +38,14 @@ module _ (kind : Kind) (s : Subject) (bytes : List ℕ) (then now : ℕ) where
   rule_refuses a r =
       refused_second (world_rows s) later a (refused_first rule_part (time_rows s then now) (rest_refused (λ h. not_first a (inl (inl h))) r))
 
-  pub times_refuse : Accepted (world_rows s) → Accepted (rule_rows true kind bytes (counts_of s)) → BadTimes then now s.log → Refused (ask_rows kind s bytes then now) 10
-  times_refuse a b bad =
-      refused_second (world_rows s) later a (refused_second rule_part (time_rows s then now) (not_rest b) (here bad))
+  pub nothing_refuses : Accepted (world_rows s) → Accepted (rule_rows true kind bytes (counts_of s)) → Accepted (time_rows s then now) → Accepted (ask_rows kind s bytes then now)
+  nothing_refuses a b timely = accepted_both (world_rows s) later a (accepted_both rule_part (time_rows s then now) (not_rest b) timely)
 
-  pub nothing_refuses : Accepted (world_rows s) → Accepted (rule_rows true kind bytes (counts_of s)) → then ≤ now → now ≤ length s.log → Accepted (ask_rows kind s bytes then now)
-  nothing_refuses a b early late =
-      accepted_both (world_rows s) later a
-      (accepted_both rule_part (time_rows s then now) (not_rest b) (passes (⊎_elim (λ h. omega arith) (λ h. omega arith)) accepts))
+  -- where theory, log and rule are accepted, the times decide
+  pub times_settle : Accepted (world_rows s) → Accepted (rule_rows true kind bytes (counts_of s)) → (r : Result Unit Refusal) → Settled (time_rows s then now) r
+      → Settled (ask_rows kind s bytes then now) r
+  times_settle a b (Ok u) timely = nothing_refuses a b timely
+  times_settle a b (Err why) bad = refused_second (world_rows s) later a (refused_second rule_part (time_rows s then now) (not_rest b) bad)
 
 -- the bytes spell a rule of the kind, and one only
 whole : (domain : ℕ) (kind : Kind) (bytes : List ℕ) → (BadRule domain kind bytes → ⊥) → (r : Rule) × Opens kind bytes r []

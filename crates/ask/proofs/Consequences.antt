@@ -1,9 +1,12 @@
 -- What the contract of `reach` means for two questions: demand 3's first half, for bytes. A text W and the text `-W` are asked of the same subject with the same
 -- now; the converse is the meaning's theorem, and that `-W` spells the converse of what W spells is unique reading.
+use Rattle.std.specs.Prelude.{Result}
 use mathlib.Core.Path.{◌≡◌, sym, ap, subst, ◌∙◌}
 use mathlib.Core.Logic.{inl, inr}
 use mathlib.Core.List.{List, [], ◌∷◌}
 use Prim.Native.Nat.{ℕ}
+use Rattle.refusal.specs.declared.Refusal.{Refusal}
+use Rattle.refusal.specs.Given.{number_given}
 use Rattle.laws.specs.Bit.{on}
 use Rattle.laws.proofs.Truth.{same_truth}
 use Rattle.meaning.specs.Rule.{Walk, walk_text, walk_names, conv, of_walk, walk_kind, Opens}
@@ -12,9 +15,9 @@ use Rattle.meaning.specs.Refusal.{Accepted}
 use Rattle.meaning.proofs.Converse.{converse}
 use Rattle.meaning.proofs.Refusal.{refused_not_accepted}
 use Rattle.theory.specs.Subject.{Subject, world_of}
-use Rattle.ask.specs.declared.ReachAnswer.{ReachAnswer}
+use Rattle.ask.specs.declared.Reached.{Reached}
 use Rattle.ask.specs.Rows.{ask_rows}
-use Rattle.ask.specs.Reach.{number_given, set_given, count_given, earliest_given, WalkReached, ReachAnswered}
+use Rattle.ask.specs.Reach.{reached_given, WalkReached, ReachAnswered}
 use Rattle.ask.proofs.Determined.{one_walk}
 
 -- `-`, as a byte
@@ -47,8 +50,8 @@ module _ (s : Subject) (bytes : List ℕ) (p q now : ℕ) where
       (λ h. there.written.bits q ∙ (there.reached.holds q).1 (turn.0 ((back.reached.holds p).0 (sym (back.written.bits p) ∙ h))))
 
   -- where W from p and `-W` from q are both accepted, bit q of the one answer is bit p of the other
-  pub converse_of_bytes : (a b : ReachAnswer) → Accepted (ask_rows walk_kind s bytes p now) → Accepted (ask_rows walk_kind s (minus ∷ bytes) q now)
-      → ReachAnswered s bytes p now (number_given a) (set_given a) (count_given a) (earliest_given a)
-      → ReachAnswered s (minus ∷ bytes) q now (number_given b) (set_given b) (count_given b) (earliest_given b)
-      → on (set_given a) q ≡ on (set_given b) p
+  pub converse_of_bytes : (a b : Result Reached Refusal) → Accepted (ask_rows walk_kind s bytes p now) → Accepted (ask_rows walk_kind s (minus ∷ bytes) q now)
+      → ReachAnswered s bytes p now (number_given a) (reached_given a).set (reached_given a).count (reached_given a).earliest
+      → ReachAnswered s (minus ∷ bytes) q now (number_given b) (reached_given b).set (reached_given b).count (reached_given b).earliest
+      → on (reached_given a).set q ≡ on (reached_given b).set p
   converse_of_bytes a b fine turned x y = exchanged (right s bytes p now fine x) (right s (minus ∷ bytes) q now turned y)

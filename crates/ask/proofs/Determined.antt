@@ -1,7 +1,7 @@
 -- Any two answers that the contracts of this crate allow are equal.
-use mathlib.Core.Path.{◌≡◌, refl, sym, ap, subst, ◌∙◌}
-use mathlib.Core.Logic.{inl, inr}
-use mathlib.Core.Bool.{Bool, true, false, true≢false}
+use Rattle.std.specs.Prelude.{Result}
+use mathlib.Core.Path.{◌≡◌, refl, sym, subst, ◌∙◌}
+use mathlib.Core.Bool.{Bool}
 use mathlib.Core.List.{List, [], ◌∷◌}
 use mathlib.Core.Option.{Option, some-injective}
 use Prim.Native.Nat.{ℕ, ◌^◌, ◌<◌}
@@ -16,21 +16,22 @@ use Rattle.meaning.specs.Reach.{ReachedAs}
 use Rattle.meaning.specs.Refusal.{Accepted, falls}
 use Rattle.meaning.proofs.Reading.{unique_reading}
 use Rattle.meaning.proofs.Reach.{reached_as_unique}
-use Rattle.meaning.proofs.Refusal.{answered_determined}
+use Rattle.meaning.proofs.Refusal.{answered_determined, one_verdict}
 use Rattle.laws.proofs.Truth.{same_truth}
 use Rattle.theory.specs.Subject.{Subject, counts_of, world_of}
+use Rattle.theory.proofs.Determined.{same_verdict}
 use Rattle.tables.specs.Tables.{Describes}
-use Rattle.refusal.proofs.Numbers.{one_number, some_number}
+use Rattle.refusal.specs.declared.Refusal.{Refusal}
+use Rattle.refusal.specs.Given.{number_given}
+use Rattle.refusal.proofs.Given.{same_given}
 use Rattle.ask.specs.Asked.{EndTold, AskTold}
 use Rattle.runs.specs.Values.{unbound}
 use Rattle.runs.specs.Found.{Tabled, WalkHere}
-use Rattle.ask.specs.declared.ReachAnswer.{ReachAnswer}
-use Rattle.ask.specs.declared.ReachAnswer.TheVariants.{Refused, Reached}
-use Rattle.ask.specs.declared.VerdictAnswer.{VerdictAnswer}
-use Rattle.ask.specs.declared.VerdictAnswer.TheVariants.{Refused as Declined, Yes, No}
+use Rattle.ask.specs.declared.Reached.{Reached}
 use Rattle.ask.specs.Rows.{ask_rows}
-use Rattle.ask.specs.Reach.{number_given, set_given, count_given, earliest_given, ReachAnswered}
-use Rattle.ask.specs.Verdict.{number_given as verdictNumber, verdict_given, Verdict, TestJudged, TestTold, VerdictAnswered}
+use Rattle.ask.specs.Reach.{none_reached, reached_given, ReachAnswered}
+use Rattle.theory.specs.Possible.{verdict_given}
+use Rattle.ask.specs.Verdict.{Verdict, TestJudged, TestTold, VerdictAnswered}
 
 -- the bytes spell one walk, one test
 pub one_walk : {bytes : List ℕ} (x y : Walk) → Opens walk_kind bytes (of_walk x) [] → Opens walk_kind bytes (of_walk y) [] → x ≡ y
@@ -40,52 +41,35 @@ one_test : {bytes : List ℕ} (t u : Test) → Opens test_kind bytes (of_test t)
 one_test t u o p = let e : of_test t ≡ of_test u = (unique_reading o p).0 in cc
 
 -- an answer is its number and its values
-same_reach : (a b : ReachAnswer) → number_given a ≡ number_given b → set_given a ≡ set_given b → count_given a ≡ count_given b → earliest_given a ≡ earliest_given b → a ≡ b
-same_reach (Refused r) (Refused q) n s c e = ap Refused (one_number r q n)
-same_reach (Refused r) (Reached s c e) n _ _ _ = absurd (some_number r n)
-same_reach (Reached s c e) (Refused r) n _ _ _ = absurd (some_number r (sym n))
-same_reach (Reached s c e) (Reached s' c' e') n p q r = cc
+same_reached : (x y : Reached) → x.set ≡ y.set → x.count ≡ y.count → x.earliest ≡ y.earliest → x ≡ y
+same_reached x y s c e = grind arith
 
-same_verdict : (a b : VerdictAnswer) → verdictNumber a ≡ verdictNumber b → verdict_given a ≡ verdict_given b → a ≡ b
-same_verdict (Declined r) (Declined q) n v = ap Declined (one_number r q n)
-same_verdict (Declined r) Yes n v = absurd (some_number r n)
-same_verdict (Declined r) No n v = absurd (some_number r n)
-same_verdict Yes (Declined r) n v = absurd (some_number r (sym n))
-same_verdict No (Declined r) n v = absurd (some_number r (sym n))
-same_verdict Yes Yes n v = refl
-same_verdict No No n v = refl
-same_verdict Yes No n v = let z : true ≡ false = cc in absurd (true≢false z)
-same_verdict No Yes n v = let z : true ≡ false = cc in absurd (true≢false z)
-
--- a test is not both true and not true
-one_verdict : (w : World) (t : Test) (then now : ℕ) {v u : Option Bool} → Verdict w t then now v → Verdict w t then now u → v ≡ u
-one_verdict w t then now (inl h) (inl k) = h.0 ∙ sym k.0
-one_verdict w t then now (inl h) (inr k) = absurd (k.1 h.1)
-one_verdict w t then now (inr h) (inl k) = absurd (h.1 k.1)
-one_verdict w t then now (inr h) (inr k) = h.0 ∙ sym k.0
+same_reach : (a b : Result Reached Refusal) → number_given a ≡ number_given b → (reached_given a).set ≡ (reached_given b).set → (reached_given a).count ≡ (reached_given b).count
+    → (reached_given a).earliest ≡ (reached_given b).earliest → a ≡ b
+same_reach a b n s c e = same_given none_reached a b n (same_reached (reached_given a) (reached_given b) s c e)
 
 -- what a test is judged to be, and told to be over the rows of a log that it can be asked of
 pub judged_determined : {s : Subject} {bytes : List ℕ} {then now : ℕ} {v u : Option Bool} → TestJudged s bytes then now v → TestJudged s bytes then now u → v ≡ u
 judged_determined {s} {then = then} {now = now} {v = v} {u = u} r q =
     let e : q.test ≡ r.test = one_test q.test r.test q.spells r.spells in
-    one_verdict (world_of s) r.test then now r.judged (subst (λ (t : Test). Verdict (world_of s) t then now u) e q.judged)
+    one_verdict r.judged (subst (λ (t : Test). Verdict (world_of s) t then now u) e q.judged)
 
 pub told_determined : {s : Subject} {bytes rows : List ℕ} {domain reading then now : ℕ} → (counts_of s).domain ≡ domain → s.setting.reading ≡ reading → Accepted (ask_rows test_kind s bytes then now)
     → Describes (world_of s) rows → (a b : Bool) → TestTold bytes domain reading rows then now a → TestTold bytes domain reading rows then now b → a ≡ b
 told_determined {s} many read fine rows a b f g = some-injective _ _ (judged_determined (f.each s many read fine rows) (g.each s many read fine rows))
 
 module _ (s : Subject) (bytes : List ℕ) (then now : ℕ) where
-  pub reach_determined : (a b : ReachAnswer) → ReachAnswered s bytes then now (number_given a) (set_given a) (count_given a) (earliest_given a)
-      → ReachAnswered s bytes then now (number_given b) (set_given b) (count_given b) (earliest_given b) → a ≡ b
+  pub reach_determined : (a b : Result Reached Refusal) → ReachAnswered s bytes then now (number_given a) (reached_given a).set (reached_given a).count (reached_given a).earliest
+      → ReachAnswered s bytes then now (number_given b) (reached_given b).set (reached_given b).count (reached_given b).earliest → a ≡ b
   reach_determined a b x y =
       answered_determined x y (λ n r q. same_reach a b n (r.0 ∙ sym q.0) (r.1 ∙ sym q.1) (r.2 ∙ sym q.2)) (λ n r q.
       let e : q.walk ≡ r.walk = one_walk q.walk r.walk q.spells r.spells in
-      let other = subst (λ (v : Walk). ReachedAs (world_of s) v then now (set_given b) (count_given b) (earliest_given b)) e q.reached in
+      let other = subst (λ (v : Walk). ReachedAs (world_of s) v then now (reached_given b).set (reached_given b).count (reached_given b).earliest) e q.reached in
       let (set, count, first) = reached_as_unique (world_of s) r.walk then now r.reached other in
       same_reach a b n set count first)
 
-  pub verdict_determined : (a b : VerdictAnswer) → VerdictAnswered s bytes then now (verdictNumber a) (verdict_given a)
-      → VerdictAnswered s bytes then now (verdictNumber b) (verdict_given b) → a ≡ b
+  pub verdict_determined : (a b : Result Bool Refusal) → VerdictAnswered s bytes then now (number_given a) (verdict_given a)
+      → VerdictAnswered s bytes then now (number_given b) (verdict_given b) → a ≡ b
   verdict_determined a b x y =
       answered_determined x y (λ n r q. same_verdict a b n (r ∙ sym q)) (λ n r q. same_verdict a b n (judged_determined r q))
 

@@ -1,5 +1,6 @@
 -- Document 02, Q-13, for the calls `reach` and `verdict`: of two logs that are the same up to now, both of them accepted, each answers the same at (then, now), refusals too.
 -- A verdict that was printed with its now is the byte that today's longer log gives. Knows the calls' statements and the meaning's law.
+use Rattle.std.specs.Prelude.{Result}
 use mathlib.Core.Path.{◌≡◌, refl}
 use mathlib.Core.Logic.Iff
 use mathlib.Core.Logic.{inl, inr, ⊎_elim}
@@ -8,6 +9,8 @@ use mathlib.Core.List.{List}
 use mathlib.Core.Option.{Option}
 use Prim.Native.Nat.{ℕ}
 use native.Mathlib.Omega.{arith}
+use Rattle.refusal.specs.declared.Refusal.{Refusal}
+use Rattle.refusal.specs.Given.{number_given}
 use Rattle.meaning.specs.Rule.{Kind, walk_kind, test_kind}
 use Rattle.meaning.specs.Refusal.{Accepted}
 use Rattle.meaning.specs.Stands.{Agree}
@@ -18,10 +21,10 @@ use Rattle.theory.specs.Subject.{Subject, subject_of, world_of}
 use Rattle.theory.specs.declared.Setting.{Setting}
 use Rattle.theory.proofs.Stands.{Reaches}
 use Rattle.ask.specs.Rows.{ask_rows}
-use Rattle.ask.specs.Reach.{number_given, set_given, count_given, earliest_given, ReachAnswered}
-use Rattle.ask.specs.Verdict.{number_given as verdictNumber, verdict_given, TestJudged, VerdictAnswered}
-use Rattle.ask.specs.declared.ReachAnswer.{ReachAnswer}
-use Rattle.ask.specs.declared.VerdictAnswer.{VerdictAnswer}
+use Rattle.ask.specs.Reach.{reached_given, ReachAnswered}
+use Rattle.theory.specs.Possible.{verdict_given}
+use Rattle.ask.specs.Verdict.{TestJudged, VerdictAnswered}
+use Rattle.ask.specs.declared.Reached.{Reached}
 use Rattle.ask.proofs.Asking.{asked_times}
 use Rattle.ask.proofs.Determined.{reach_determined, verdict_determined}
 
@@ -82,10 +85,10 @@ module _ (s : Setting) (masks l l' bytes : List ℕ) (then now : ℕ) (same : Ag
       (λ a r. record { walk = r.walk; spells = r.spells; reached = reached_as_stands (world_of before) r.walk l l' then now same r.reached })
 
   -- so the two answers are equal
-  pub verdict_same : (a b : VerdictAnswer) → VerdictAnswered before bytes then now (verdictNumber a) (verdict_given a)
-      → VerdictAnswered after bytes then now (verdictNumber b) (verdict_given b) → a ≡ b
+  pub verdict_same : (a b : Result Bool Refusal) → VerdictAnswered before bytes then now (number_given a) (verdict_given a)
+      → VerdictAnswered after bytes then now (number_given b) (verdict_given b) → a ≡ b
   verdict_same a b x y = verdict_determined after bytes then now a b (verdict_stands x) y
 
-  pub reach_same : (a b : ReachAnswer) → ReachAnswered before bytes then now (number_given a) (set_given a) (count_given a) (earliest_given a)
-      → ReachAnswered after bytes then now (number_given b) (set_given b) (count_given b) (earliest_given b) → a ≡ b
+  pub reach_same : (a b : Result Reached Refusal) → ReachAnswered before bytes then now (number_given a) (reached_given a).set (reached_given a).count (reached_given a).earliest
+      → ReachAnswered after bytes then now (number_given b) (reached_given b).set (reached_given b).count (reached_given b).earliest → a ≡ b
   reach_same a b x y = reach_determined after bytes then now a b (reach_stands x) y

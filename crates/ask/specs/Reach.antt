@@ -1,30 +1,20 @@
--- Document 01, "What may be asked", reach: what each case of its answer says, and when an answer is right.
-use Rattle.std.specs.Prelude.{◌≡◌, List, [], ℕ}
-use Rattle.refusal.specs.Number.{number_of}
+-- Document 01, "What may be asked", reach: what its answer says, and when an answer is right.
+use Rattle.std.specs.Prelude.{◌≡◌, List, [], ℕ, Result}
+use Rattle.refusal.specs.declared.Refusal.{Refusal}
+use Rattle.refusal.specs.Given.{value_given}
 use Rattle.meaning.specs.Rule.{Walk, of_walk, walk_kind, Opens}
 use Rattle.meaning.specs.Reach.{ReachedAs}
 use Rattle.meaning.specs.Refusal.{Answered, no_set, no_count, no_earliest}
 use Rattle.theory.specs.Subject.{Subject, world_of}
 use Rattle.ask.specs.Rows.{ask_rows}
-use Rattle.ask.specs.declared.ReachAnswer.{ReachAnswer}
-use Rattle.ask.specs.declared.ReachAnswer.TheVariants.{Refused, Reached}
+use Rattle.ask.specs.declared.Reached.{Reached}
 
--- the refusal's number, 0 for none; "A refusal has set 0, count 0, earliest 64"
-abbrev pub number_given : ReachAnswer → ℕ
-number_given (Refused r) = number_of r
-number_given (Reached set count earliest) = 0
+-- what a call gives beside the number: "A refusal has set 0, count 0, earliest 64"
+abbrev pub none_reached : Reached
+none_reached = record { set = no_set; count = no_count; earliest = no_earliest }
 
-abbrev pub set_given : ReachAnswer → ℕ
-set_given (Refused r) = no_set
-set_given (Reached set count earliest) = set
-
-abbrev pub count_given : ReachAnswer → ℕ
-count_given (Refused r) = no_count
-count_given (Reached set count earliest) = count
-
-abbrev pub earliest_given : ReachAnswer → ℕ
-earliest_given (Refused r) = no_earliest
-earliest_given (Reached set count earliest) = earliest
+abbrev pub reached_given : Result Reached Refusal → Reached
+reached_given = value_given none_reached
 
 abbrev pub NothingReached : ℕ → ℕ → ℕ → Type 0
 NothingReached set count earliest = (set ≡ no_set) × (count ≡ no_count) × (earliest ≡ no_earliest)

@@ -1,33 +1,19 @@
--- Document 01, "What may be asked", verdict: what each case of its answer says, and when an answer is right.
-use Rattle.std.specs.Prelude.{◌≡◌, ◌⊎◌, Bool, true, false, List, [], ℕ}
+-- Document 01, "What may be asked", verdict: what its answer says, and when an answer is right.
+use Rattle.std.specs.Prelude.{◌≡◌, Bool, true, List, [], ℕ}
 use Rattle.std.proofs.Math.Option.{Option, none, some}
-use Rattle.refusal.specs.Number.{number_of}
 use Rattle.meaning.specs.Theory.{World}
 use Rattle.meaning.specs.Rule.{Test, of_test, test_kind, Opens}
 use Rattle.meaning.specs.Leads.{Holds}
-use Rattle.meaning.specs.Refusal.{Accepted, Answered}
+use Rattle.meaning.specs.Refusal.{Accepted, Answered, YesOrNo}
 use Rattle.theory.specs.Subject.{Subject, counts_of, world_of}
 use Rattle.tables.specs.Tables.{Describes}
 use Rattle.theory.specs.declared.Counts.{Counts}
 use Rattle.rule.specs.Outcome.{text_rows}
 use Rattle.ask.specs.Rows.{ask_rows}
-use Rattle.ask.specs.declared.VerdictAnswer.{VerdictAnswer}
-use Rattle.ask.specs.declared.VerdictAnswer.TheVariants.{Refused, Yes, No}
-
--- the refusal's number, 0 for none; and the verdict, which a refusal has none of
-abbrev pub number_given : VerdictAnswer → ℕ
-number_given (Refused r) = number_of r
-number_given Yes = 0
-number_given No = 0
-
-abbrev pub verdict_given : VerdictAnswer → Option Bool
-verdict_given (Refused r) = none
-verdict_given Yes = some true
-verdict_given No = some false
 
 -- the verdict is yes exactly when the test is true
 abbrev pub Verdict : World → Test → ℕ → ℕ → Option Bool → Type 0
-Verdict w t then now verdict = ((verdict ≡ some true) × Holds w t then now) ⊎ ((verdict ≡ some false) × ¬ Holds w t then now)
+Verdict w t then now verdict = YesOrNo (Holds w t then now) verdict
 
 -- the verdict of the test that the bytes spell
 pub record TestJudged (s : Subject) (bytes : List ℕ) (then now : ℕ) (verdict : Option Bool) : Type 0 where

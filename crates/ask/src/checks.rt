@@ -1,41 +1,36 @@
 // Which refusal a question is given: theory and log, then the rule, then the two times.
-ghost use Rattle.theory.specs.Subject.{subject_of};
+ghost use Rattle.std.specs.Prelude.{[], ◌∷◌};
+ghost use Rattle.meaning.specs.Refusal.{◌when◌, BadTimes};
+ghost use Rattle.theory.specs.Subject.{subject};
 ghost use Rattle.theory.specs.Check.{Settled};
 ghost use Rattle.rule.specs.Outcome.{kind_of};
 ghost use Rattle.ask.specs.Rows.{ask_rows};
 
 use refusal::Refusal;
 use rule::{Kind, check_rule};
+use theory::Asked;
 use theory::faults::check_world;
-use theory::{Check, Setting};
+
+// Then is after now, or now past the log: for whoever has other checks before it and behind it.
+pub fn check_times(log: &[u8], then: usize, now: usize) -> Result<(), Refusal>
+    ensures { Settled ((10 when BadTimes then now log.now) ∷ []) result }
+{
+    if now < then || log.len() < now {
+        return Err(Refusal::BadPosition);
+    }
+    Ok(())
+}
 
 pub(crate) fn check(
-    s: Setting,
-    masks: &[u32],
-    log: &[u8],
+    asked: Asked,
     rule: &[u8],
     kind: Kind,
     then: usize,
     now: usize,
-) -> Check
-    ensures { Settled (ask_rows (kind_of kind) (subject_of s masks.now log.now) rule.now then now) result }
+) -> Result<(), Refusal>
+    ensures { Settled (ask_rows (kind_of kind) (subject asked.entry) rule.now then now) result }
 {
-    match check_world(s, masks, log) {
-        Check::Refused(r) => Check::Refused(r),
-        Check::Sound => {
-            let counts = s.counts;
-            match check_rule(rule, kind, counts) {
-                Check::Refused(r) => Check::Refused(r),
-                Check::Sound => {
-                    if now < then {
-                        return Check::Refused(Refusal::BadPosition);
-                    }
-                    if log.len() < now {
-                        return Check::Refused(Refusal::BadPosition);
-                    }
-                    Check::Sound
-                }
-            }
-        }
-    }
+    check_world(asked)?;
+    check_rule(rule, kind, asked.setting.counts)?;
+    check_times(asked.log, then, now)
 }

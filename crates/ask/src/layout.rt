@@ -1,25 +1,18 @@
 // What the evaluator reads of a question that no check refuses: where each rule of the text ends, and the rows of the log.
 ghost use Rattle.std.specs.Prelude.{◌≡◌, ◌≤◌, length};
 ghost use Rattle.meaning.specs.Limits.{text_limit};
-ghost use Rattle.theory.specs.Subject.{subject_of, Readable};
+ghost use Rattle.theory.specs.Subject.{subject, Readable};
 ghost use Rattle.ask.specs.LaidOut.{no_ends, LaidOut};
 
 use grammar::ends::{ENDS_ROOM, fill_ends};
 use tables::{ROWS, transpose};
-use theory::Setting;
+use theory::Asked;
 
 // Both tables are written whole; that of ends is lent empty.
-pub(crate) fn lay_out(
-    s: Setting,
-    masks: &[u32],
-    log: &[u8],
-    rule: &[u8],
-    ends: &mut [u8; ENDS_ROOM],
-    rows: &mut [u64; ROWS],
-)
-    requires { Readable masks.now log.now × (length rule.now ≤ text_limit) × (ends.old ≡ no_ends) }
-    ensures { LaidOut (subject_of s masks.now log.now) rule.now ends.new rows.new }
+pub(crate) fn lay_out(asked: Asked, rule: &[u8], ends: &mut [u8; ENDS_ROOM], rows: &mut [u64; ROWS])
+    requires { Readable asked.masks.now asked.log.now × (length rule.now ≤ text_limit) × (ends.old ≡ no_ends) }
+    ensures { LaidOut (subject asked.entry) rule.now ends.new rows.new }
 {
     fill_ends(rule, ends);
-    transpose(s, masks, log, rows);
+    transpose(asked, rows);
 }

@@ -6,14 +6,16 @@ ghost use Rattle.ask.specs.Verdict.{VerdictAnswered};
 ghost use Rattle.board.specs.Answer.{BoardAnswered};
 ghost use Rattle.exported.specs.Exported.{asked, InSlot};
 
-use ask::{ReachAnswer, VerdictAnswer};
-use board::BoardAnswer;
-use theory::{Counts, Setting};
+use ask::Reached;
+use exported::{told, verdict_told};
+use theory::{Asked, Setting};
 
-// A verdict in its slot.
-const YES: u8 = 1;
-
-const NO: u8 = 0;
+// What the slots have on a refusal.
+const NOTHING: Reached = Reached {
+    set: 0,
+    count: 0,
+    earliest: 64,
+};
 
 // The positions that a walk leads to from `then`, with this now.
 #[unsafe(no_mangle)]
@@ -34,34 +36,18 @@ pub extern "C" fn wyh_reach(
 ) -> u8
     ensures { ReachAnswered (asked fluents actions domain start reading masks.now log.now) walk.now then now result set.new count.new earliest.new }
 {
-    let counts = Counts {
-        fluents,
-        actions,
-        domain,
+    let setting = Setting::of(fluents, actions, domain, start, reading);
+    let asked = Asked {
+        setting,
+        masks,
+        log,
     };
-    let s = Setting {
-        counts,
-        start,
-        reading,
-    };
-    match ask::reach(s, masks, log, walk, then, now) {
-        ReachAnswer::Refused(why) => {
-            *set = 0;
-            *count = 0;
-            *earliest = 64;
-            refusal::number(why)
-        }
-        ReachAnswer::Reached {
-            set: found,
-            count: many,
-            earliest: first,
-        } => {
-            *set = found;
-            *count = many as u32;
-            *earliest = first as u32;
-            0
-        }
-    }
+    let mut found = NOTHING;
+    let refusal = told(ask::reach(asked, walk, then, now), NOTHING, &mut found);
+    *set = found.set;
+    *count = found.count as u32;
+    *earliest = found.earliest as u32;
+    refusal
 }
 
 // Whether a test is true at `then`, with this now: 1 or 0 in the slot.
@@ -81,30 +67,13 @@ pub extern "C" fn wyh_verdict(
 ) -> u8
     ensures { InSlot (VerdictAnswered (asked fluents actions domain start reading masks.now log.now) test.now then now result) yes.new }
 {
-    let counts = Counts {
-        fluents,
-        actions,
-        domain,
+    let setting = Setting::of(fluents, actions, domain, start, reading);
+    let asked = Asked {
+        setting,
+        masks,
+        log,
     };
-    let s = Setting {
-        counts,
-        start,
-        reading,
-    };
-    match ask::verdict(s, masks, log, test, then, now) {
-        VerdictAnswer::Refused(why) => {
-            *yes = 0;
-            refusal::number(why)
-        }
-        VerdictAnswer::Yes => {
-            *yes = YES;
-            0
-        }
-        VerdictAnswer::No => {
-            *yes = NO;
-            0
-        }
-    }
+    verdict_told(ask::verdict(asked, test, then, now), yes)
 }
 
 // Whether each test of the text is true at `then`, with this now: a byte each, at the front of the output.
@@ -125,24 +94,11 @@ pub extern "C" fn wyh_board(
 ) -> u8
     ensures { BoardAnswered (asked fluents actions domain start reading masks.now log.now) tests.now then now out.old result count.new out.new }
 {
-    let counts = Counts {
-        fluents,
-        actions,
-        domain,
+    let setting = Setting::of(fluents, actions, domain, start, reading);
+    let asked = Asked {
+        setting,
+        masks,
+        log,
     };
-    let s = Setting {
-        counts,
-        start,
-        reading,
-    };
-    match board::board(s, masks, log, tests, then, now, out) {
-        BoardAnswer::Refused(why) => {
-            *count = 0;
-            refusal::number(why)
-        }
-        BoardAnswer::Told(many) => {
-            *count = many;
-            0
-        }
-    }
+    told(board::board(asked, tests, then, now, out), 0, count)
 }

@@ -4,7 +4,7 @@ use mathlib.Core.List.{List, ◌++◌}
 use Prim.Native.Nat.{ℕ, ◌≤◌, ◌<◌}
 use native.Mathlib.Omega.{arith}
 use lib.ListN.{length}
-use Rattle.meaning.specs.Refusal.{Row, Refused, Accepted, BadTimes, TooShort}
+use Rattle.meaning.specs.Refusal.{Row, Refused, Accepted, TooShort}
 use Rattle.meaning.proofs.Refusal.{here, past, accepts, passes, not_first, not_rest, refused_first, refused_second, accepted_both, accepted_parts}
 use Rattle.theory.specs.Subject.{Subject, Readable, world_of}
 use Rattle.theory.specs.Rows.{world_rows}
@@ -57,18 +57,19 @@ module _ (s : Subject) (text : List ℕ) (then now room : ℕ) where
         last-refuses r = refused_second (tests_rows text) Later sound-text (refused_second (world_rows s) Last sound r)
 
         -- 10
-        pub times_refuse : BadTimes then now s.log → Refused All 10
-        times_refuse h = last-refuses (here h)
+        pub times_refuse : {N : ℕ} → Refused (time_rows s then now) N → Refused All N
+        times_refuse r = last-refuses (refused_first (time_rows s then now) (room_rows text room) r)
 
-        module _ (timely : BadTimes then now s.log → ⊥) where
+        module _ (timely : Accepted (time_rows s then now)) where
           -- 12
           pub room-refuses : room < many → Refused All 12
-          room-refuses h = last-refuses (past timely (here (so_many (TooShort room) h)))
+          room-refuses h = last-refuses (refused_second (time_rows s then now) (room_rows text room) timely (here (so_many (TooShort room) h)))
 
           pub nothing_refuses : many ≤ room → Accepted All
           nothing_refuses h =
               accepted_both (tests_rows text) Later sound-text
-              (accepted_both (world_rows s) Last sound (passes timely (passes (no_fault (TooShort room) (λ short. omega arith)) accepts)))
+              (accepted_both (world_rows s) Last sound
+              (accepted_both (time_rows s then now) (room_rows text room) timely (passes (no_fault (TooShort room) (λ short. omega arith)) accepts)))
 
 -- What an acceptance leaves.
 module _ {s : Subject} {text : List ℕ} {then now room : ℕ} (passed : Accepted (board_rows s text then now room)) where

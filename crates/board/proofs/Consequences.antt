@@ -1,14 +1,18 @@
 -- What the contract means for the bytes of an accepted call: which there are, and that a test's byte is its own, whatever the other tests are.
+use Rattle.std.specs.Prelude.{Result, Ok, Err}
 use mathlib.Core.Path.{◌≡◌, refl, sym, ap, subst}
 use mathlib.Core.Logic.{◌⊎◌, inl, inr}
-use mathlib.Core.Bool.{true}
+use mathlib.Core.Bool.{Bool, true, false}
 use mathlib.Core.List.{List, [], ◌++◌}
 use Prim.Native.Nat.{ℕ, ◌+◌, ◌<◌}
 use lib.ListN.{length, get_or}
 use Rattle.meaning.specs.Rule.{test_kind}
 use Rattle.meaning.specs.Refusal.{FirstHolding, Accepted}
 use Rattle.meaning.proofs.Refusal.{not_first, refused_behind}
+use Rattle.refusal.specs.declared.Refusal.{Refusal}
 use Rattle.refusal.specs.Number.{number_of}
+use Rattle.refusal.specs.Given.{number_given}
+use Rattle.theory.specs.Possible.{verdict_given}
 use Rattle.refusal.proofs.Numbers.{some_number}
 use Rattle.theory.specs.Subject.{Subject, counts_of}
 use Rattle.theory.specs.Rows.{world_rows}
@@ -16,9 +20,6 @@ use Rattle.rule.specs.Outcome.{text_rows}
 use Rattle.rule.proofs.Outcomes.{test_no_job}
 use Rattle.ask.specs.Rows.{time_rows}
 use Rattle.ask.specs.Verdict.{VerdictAnswered}
-use Rattle.ask.specs.Verdict as single
-use Rattle.ask.specs.declared.VerdictAnswer.{VerdictAnswer}
-use Rattle.ask.specs.declared.VerdictAnswer.TheVariants.{Yes, No, Refused as Declined}
 use Rattle.board.specs.Rows.{board_rows}
 use Rattle.board.specs.Answer.{byte_of, ByteTold, BoardTold}
 use Rattle.board.proofs.Checking.{world_passed, times_passed}
@@ -45,12 +46,12 @@ module _ {s : Subject} {test : List ℕ} {then now : ℕ} (sound : Accepted (wor
   of_rule n (inr (_, inr (_, inr (_, inr (_, inr (_, inl h)))))) = absurd (not_first timely h.1)
   of_rule n (inr (_, inr (_, inr (_, inr (_, inr (_, inr h)))))) = absurd h.1
 
-  byte_known : (a : VerdictAnswer) → VerdictAnswered s test then now (single.number_given a) (single.verdict_given a) → Known (byte_of a)
-  byte_known No x = inl refl
-  byte_known Yes x = inr (inl refl)
-  byte_known (Declined why) (inl x) =
+  byte_known : (a : Result Bool Refusal) → VerdictAnswered s test then now (number_given a) (verdict_given a) → Known (byte_of a)
+  byte_known (Ok false) x = inl refl
+  byte_known (Ok true) x = inr (inl refl)
+  byte_known (Err why) (inl x) =
       of_rule (number_of why) (refused_behind (world_rows s) (text_rows true test_kind test (counts_of s) ++ time_rows s then now) sound x.refused).first
-  byte_known (Declined why) (inr x) = absurd (some_number why x.none)
+  byte_known (Err why) (inr x) = absurd (some_number why x.none)
 
 pub bytes_known : {s : Subject} {text before after : List ℕ} {then now count : ℕ} → Accepted (board_rows s text then now (length before))
     → (t : BoardTold s text then now before count after) (k : ℕ) → k < length t.tests → Known (get_or after k 0)

@@ -1,4 +1,5 @@
 -- Any two outcomes that the contract allows are equal: the answer, and what the lent output holds. And the numbers of the call's list rise.
+use Rattle.std.specs.Prelude.{Result}
 use mathlib.Core.Path.{◌≡◌, refl, sym, ap, subst, ◌∙◌}
 use mathlib.Core.List.{List, []}
 use Prim.Native.Nat.{ℕ, ◌≤◌, ◌<◌}
@@ -6,23 +7,16 @@ use native.Mathlib.Decide.{dec_lt}
 use native.Mathlib.Omega.{arith}
 use lib.ListN.{length, get_or}
 use lib.Seq.{ext_get_or}
-use Rattle.meaning.specs.Refusal.{falls}
+use Rattle.meaning.specs.Refusal.{falls, no_count}
 use Rattle.meaning.proofs.Refusal.{answered_determined}
-use Rattle.refusal.proofs.Numbers.{one_number, some_number}
+use Rattle.refusal.specs.declared.Refusal.{Refusal}
+use Rattle.refusal.specs.Given.{number_given, value_given}
+use Rattle.refusal.proofs.Given.{same_given}
 use Rattle.theory.specs.Subject.{Subject}
 use Rattle.ask.proofs.Determined.{verdict_determined}
 use Rattle.board.specs.Rows.{board_rows}
-use Rattle.board.specs.Answer.{byte_of, ByteTold, number_given, count_given, BoardTold, BoardAnswered}
-use Rattle.board.specs.declared.BoardAnswer.{BoardAnswer}
-use Rattle.board.specs.declared.BoardAnswer.TheVariants.{Refused, Told}
+use Rattle.board.specs.Answer.{byte_of, ByteTold, BoardTold, BoardAnswered}
 use Rattle.board.proofs.Falling.{falls_once}
-
--- an answer is its number and its count
-same_answer : (a b : BoardAnswer) → number_given a ≡ number_given b → count_given a ≡ count_given b → a ≡ b
-same_answer (Refused r) (Refused q) n c = ap Refused (one_number r q n)
-same_answer (Refused r) (Told k) n c = absurd (some_number r n)
-same_answer (Told k) (Refused r) n c = absurd (some_number r (sym n))
-same_answer (Told k) (Told j) n c = ap Told c
 
 module _ (s : Subject) (then now : ℕ) where
   -- the single question gives one answer, so that a test has one byte
@@ -48,14 +42,14 @@ module _ (s : Subject) (then now : ℕ) where
     same_board = (t.counted ∙ ap length (sym same_tests) ∙ sym u.counted, ext_get_or 0 after after' (t.room ∙ sym u.room) (λ k low. same_byte k))
 
   pub board_determined :
-      (text before after after' : List ℕ) (a b : BoardAnswer)
-      → BoardAnswered s text then now before (number_given a) (count_given a) after
-      → BoardAnswered s text then now before (number_given b) (count_given b) after'
+      (text before after after' : List ℕ) (a b : Result ℕ Refusal)
+      → BoardAnswered s text then now before (number_given a) (value_given no_count a) after
+      → BoardAnswered s text then now before (number_given b) (value_given no_count b) after'
       → (a ≡ b) × (after ≡ after')
   board_determined text before after after' a b x y =
       answered_determined x y
-      (λ n f g. (same_answer a b n (f.0 ∙ sym g.0), f.1 ∙ sym g.1))
-      (λ n f g. let (c, out) = same_board f g in (same_answer a b n c, out))
+      (λ n f g. (same_given no_count a b n (f.0 ∙ sym g.0), f.1 ∙ sym g.1))
+      (λ n f g. let (c, out) = same_board f g in (same_given no_count a b n c, out))
 
   -- "smallest first"
   pub board_rises : (text : List ℕ) (room : ℕ) → falls (board_rows s text then now room) ≡ []

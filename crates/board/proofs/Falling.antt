@@ -4,12 +4,13 @@ use mathlib.Core.Bool.{Bool, cond}
 use mathlib.Core.List.{List, [], ◌∷◌, ◌++◌, append_assoc}
 use Prim.Native.Nat.{ℕ, zero, suc, ◌+◌, ◌-◌, ◌≤◌, ◌<◌}
 use native.Mathlib.Decide.{dec_lt, ℕ_discrete}
-use native.Mathlib.Nat.{add-zero}
 use native.Mathlib.Omega.{arith}
-use borrow.Author.Tests.{eq-eqb, ne_eqb}
+use borrow.Author.Tests.{ne_eqb}
 use lib.Dec.{eqb}
 use lib.ListN.{length, get_or, take, drop, length-append, length-drop, drop_of_length-le, get_or-append}
 use lib.Seq.{drop-cons, drop-drop, drop-append-add, take-append_seam, get_or-drop, get_or-append_seam, get_or_at}
+use Rattle.std.specs.List.{count_by}
+use Rattle.std.proofs.lemmas.List.Sums.{sum_by-cons}
 use Rattle.spelling.specs.Numeral.{lf}
 use Rattle.spelling.specs.Scan.{stretch, FirstLf}
 use Rattle.spelling.proofs.Determined.{find_lf_determined}
@@ -116,30 +117,24 @@ falls_ended {text} {tests} f missing = go tests f.whole
         missing.1 (ap (λ (l : List ℕ). get_or l (length text - 1) 0) all ∙ get_or_at front lf [] 0 (length text - 1) (omega arith))
 
 -- There are as many tests as LFs.
+abbrev one_lf : ℕ → ℕ
+one_lf b = cond (eqb b lf) 1 0
+
 abbrev pub lfs : List ℕ → ℕ
-lfs [] = 0
-lfs (b ∷ l) = lfs l + cond (eqb b lf) 1 0
+lfs text = count_by (λ b. eqb b lf) text
 
 lfs_line : (t rest : List ℕ) → NoLf t → lfs (t ++ rest) ≡ lfs rest
 lfs_line [] rest none = refl
-lfs_line (b ∷ t) rest none = ap (λ (x : Bool). lfs (t ++ rest) + cond x 1 0) (ne_eqb b lf (none 0 (omega arith))) ∙ omega (arith, lfs_line t rest (no_lf_tail b t none))
+lfs_line (b ∷ t) rest none =
+    omega (arith, sum_by-cons one_lf b (t ++ rest), ap {B = ℕ} (λ (x : Bool). cond x 1 0) (ne_eqb b lf (none 0 (omega arith))), lfs_line t rest (no_lf_tail b t none))
 
 lfs_listed : (tests : List (List ℕ)) → ((k : ℕ) → NoLf (get_or tests k [])) → lfs (listed tests) ≡ length tests
 lfs_listed [] none = refl
-lfs_listed (t ∷ tests) none = omega (arith, lfs_line t (lf ∷ listed tests) (none 0), lfs_listed tests (λ k. none (suc k)))
+lfs_listed (t ∷ tests) none =
+    omega (arith, lfs_line t (lf ∷ listed tests) (none 0), sum_by-cons one_lf lf (listed tests), lfs_listed tests (λ k. none (suc k)))
 
 pub counted : {text : List ℕ} {tests : List (List ℕ)} → FallsInto text tests → lfs text ≡ length tests
 counted {tests = tests} f = ap lfs f.whole ∙ lfs_listed tests f.each
-
-pub lfs_here : (text : List ℕ) (i : ℕ) → i < length text → get_or text i 0 ≡ lf → lfs (drop i text) ≡ lfs (drop (i + 1) text) + 1
-lfs_here text i low e =
-    let next : suc i ≡ i + 1 = omega arith in
-    ap lfs (drop-cons text i 0 low) ∙ ap (λ (x : Bool). lfs (drop (suc i) text) + cond x 1 0) (eq-eqb (get_or text i 0) lf e) ∙ ap (λ (k : ℕ). lfs (drop k text) + 1) next
-
-pub lfs_other : (text : List ℕ) (i : ℕ) → i < length text → (get_or text i 0 ≡ lf → ⊥) → lfs (drop i text) ≡ lfs (drop (i + 1) text)
-lfs_other text i low other =
-    let next : suc i ≡ i + 1 = omega arith in
-    ap lfs (drop-cons text i 0 low) ∙ ap (λ (x : Bool). lfs (drop (suc i) text) + cond x 1 0) (ne_eqb (get_or text i 0) lf other) ∙ ap (λ (k : ℕ). lfs (drop k text) + 0) next ∙ add-zero _
 
 -- A test that stands at a place: its LF is in the text, and is the first from there on; between stands the test, and behind it the rest.
 module _ {text : List ℕ} {at : ℕ} {test : List ℕ} (t : StandsAt text at test) where

@@ -1,5 +1,5 @@
 -- Behind the checks of the call: what one test is told over the rows of the log, and what all are told. Right for every log that the rows are of.
-use Rattle.std.specs.Prelude.{◌≡◌, List, [], ◌∷◌, ◌++◌, ℕ, ◌+◌, ◌≤◌, ◌<◌, length, get_or, drop}
+use Rattle.std.specs.Prelude.{◌≡◌, List, [], ◌∷◌, ◌++◌, ℕ, ◌≤◌, ◌<◌, length, get_or, drop}
 use Rattle.spelling.specs.Numeral.{lf}
 use Rattle.meaning.specs.Refusal.{Accepted}
 use Rattle.theory.specs.Subject.{Subject, subject_of, world_of}
@@ -16,11 +16,6 @@ pub record StandsAt (text : List ℕ) (at : ℕ) (test : List ℕ) : Type 0 wher
   pub stands : drop at text ≡ test ++ (lf ∷ rest)
   pub line : NoLf test
 
--- and some test does
-pub record TestAt (text : List ℕ) (at : ℕ) : Type 0 where
-  pub test : List ℕ
-  pub stands : StandsAt text at test
-
 -- theory, log and positions have passed, and the rows are the log's
 pub record Ready (s : Subject) (rows : List ℕ) (then now : ℕ) : Type 0 where
   pub sound : Accepted (world_rows s)
@@ -30,10 +25,6 @@ pub record Ready (s : Subject) (rows : List ℕ) (then now : ℕ) : Type 0 where
 -- the byte of one test
 pub record ByteFound (s : Setting) (test rows : List ℕ) (then now byte : ℕ) : Type 0 where
   pub each : (masks log : List ℕ) → Ready (subject_of s masks log) rows then now → ByteTold (subject_of s masks log) test then now byte
-
--- the byte of the test that stands at a place, and where the next one stands: behind its LF
-pub record OneTold (s : Setting) (text : List ℕ) (at : ℕ) (rows : List ℕ) (then now byte next : ℕ) : Type 0 where
-  pub each : (test : List ℕ) → StandsAt text at test → ByteFound s test rows then now byte × (next ≡ at + length test + 1)
 
 -- there is a byte for each test
 pub record Roomy (text out : List ℕ) : Type 0 where

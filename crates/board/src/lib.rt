@@ -1,7 +1,9 @@
 #![tactic(auto)]
 // The whole board at once: up to 64 tests about one log, a byte each. The theory and the log are checked, and the log is transposed, once for all of them. Knows no rule.
-ghost use Rattle.theory.specs.Subject.{subject_of};
-ghost use Rattle.board.specs.Answer.{number_given, count_given, BoardAnswered};
+ghost use Rattle.meaning.specs.Refusal.{no_count};
+ghost use Rattle.refusal.specs.Given.{number_given, value_given};
+ghost use Rattle.theory.specs.Subject.{subject};
+ghost use Rattle.board.specs.Answer.{BoardAnswered};
 
 mod checks; // checks.rt: which refusal the whole call is given
 mod tell; // tell.rt: each test in its turn
@@ -9,37 +11,23 @@ mod tests; // tests.rt: the text of the tests, before any is read
 
 use refusal::Refusal;
 use tables::{ROWS, transpose};
-use theory::{Check, Setting};
+use theory::Asked;
 
 // "Up to 64 tests."
 pub const TEST_LIMIT: usize = 64;
 
-// What the call answers: a refusal, or how many tests were told.
-#[derive(Clone, Copy)]
-pub enum BoardAnswer {
-    Refused(Refusal),
-    Told(usize),
-}
-
-// Whether each test of the text is true at `then`, with this now: a byte each, from the front of the output, the rest of which keeps its content.
+// Whether each test of the text is true at `then`, with this now: a byte each, from the front of the output, the rest of which keeps its content. The answer is how many tests were told.
 pub fn board(
-    s: Setting,
-    masks: &[u32],
-    log: &[u8],
+    asked: Asked,
     tests: &[u8],
     then: usize,
     now: usize,
     out: &mut [u8],
-) -> BoardAnswer
-    ensures { BoardAnswered (subject_of s masks.now log.now) tests.now then now out.old (number_given result) (count_given result) out.new }
+) -> Result<usize, Refusal>
+    ensures { BoardAnswered (subject asked.entry) tests.now then now out.old (number_given result) (value_given no_count result) out.new }
 {
-    let room = out.len();
-    match checks::check(s, masks, log, tests, then, now, room) {
-        Check::Refused(r) => BoardAnswer::Refused(r),
-        Check::Sound => {
-            let mut rows = [0u64; ROWS];
-            transpose(s, masks, log, &mut rows);
-            BoardAnswer::Told(tell::tell(s, tests, &rows, then, now, out))
-        }
-    }
+    checks::check(asked, tests, then, now, out.len())?;
+    let mut rows = [0; ROWS];
+    transpose(asked, &mut rows);
+    Ok(tell::tell(asked.setting, tests, &rows, then, now, out))
 }

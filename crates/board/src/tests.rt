@@ -6,25 +6,12 @@ ghost use Rattle.board.specs.Tests.{FallsInto, NoLastLf};
 pub(crate) fn no_last_lf(text: &[u8]) -> bool
     ensures { (result ≡ true) ↔ NoLastLf text.now }
 {
-    let length = text.len();
-    if length == 0 {
-        return false;
-    }
-    let last = length - 1;
-    text[last] != b'\n'
+    text.last().is_some_and(|b| *b != b'\n')
 }
 
 // How many tests there are: as many as LFs.
 pub(crate) fn count(text: &[u8]) -> usize
     ensures { (tests : List (List ℕ)) → FallsInto text.now tests → result ≡ length tests }
 {
-    let mut count = 0;
-    let mut i = 0;
-    while i < text.len() {
-        if text[i] == b'\n' {
-            count += 1;
-        }
-        i += 1;
-    }
-    count
+    text.iter().filter(|b| **b == b'\n').count()
 }

@@ -1,166 +1,83 @@
 // What a row gives: its sheet, from the table's first lines and the row's own, and its answer. What goes beyond the lent room is left out.
 ghost use Rattle.std.specs.Prelude.{◌≡◌, ◌≤◌, ◌<◌, length, take};
 
-use crate::lines::{behind_mark, line_end, next_line};
+use crate::lines::behind_mark;
 
-// The sheet so far; a line of the number asked for stood in the row; the sheet ends here.
-#[derive(Clone, Copy)]
-pub struct Built {
-    pub n: usize,
-    pub found: bool,
-    pub whole: bool,
+// What a line of a row puts in the place of a line of the sheet. With the last the sheet ends.
+enum Edit<'a> {
+    Line(&'a [u8]),
+    Last(&'a [u8]),
 }
 
-// A stretch of the table behind what is there.
-fn append(table: &[u8], from: usize, to: usize, out: &mut [u8], n: usize) -> usize
-    requires { (from ≤ to) × (to ≤ length table.now) × (n ≤ length out.old) }
+// A text behind what is there.
+fn append(out: &mut [u8], n: usize, text: &[u8]) -> usize
+    requires { n ≤ length out.old }
     ensures { result ≤ length out.old }
 {
-    let mut at = n;
-    let mut i = from;
-    while i < to {
-        if out.len() <= at {
-            return at;
-        }
-        out[at] = table[i];
-        at += 1;
-        i += 1;
-    }
-    at
+    let count = text.len().min(out.len() - n);
+    out[n..n + count].copy_from_slice(&text[..count]);
+    n + count
 }
 
-// The line at this place has this number.
-fn numbered(table: &[u8], at: usize, k: u8) -> bool
-    requires { (at ≤ length table.now) × (k < 100) }
+// What the first line puts there, if it has this number. Any byte but `-` is a mark, even an LF: the text is then the line behind it, be that of the next row.
+// So it is lent all of the table from the line on.
+fn edit_of<'a>(table: &'a [u8], k: u8) -> Option<Edit<'a>>
+    requires { k < 100 }
 {
-    if table.len() - at < 3 {
-        return false;
+    let marked = table.strip_prefix(&[b'0' + k / 10, b'0' + k % 10])?;
+    let (mark, from_text) = marked.split_first()?;
+    if *mark == b'-' {
+        return Some(Edit::Line(b""));
     }
-    if table[at] != 48 + k / 10 {
-        return false;
-    }
-    table[at + 1] == 48 + k % 10
-}
-
-// The text of the line at this place, if that has this number.
-fn edit(table: &[u8], at: usize, k: u8, out: &mut [u8], built: Built) -> Built
-    requires { (at ≤ length table.now) × (k < 100) × (built.n ≤ length out.old) }
-    ensures { result.n ≤ length out.old }
-{
-    let n = built.n;
-    let text = at + 3;
-    if !numbered(table, at, k) {
-        return built;
-    }
-    if table.len() < text {
-        return built;
-    }
-    let end = line_end(table, text);
-    let next = next_line(table, text);
-    if table[at + 2] == b'-' {
-        return Built {
-            n,
-            found: true,
-            whole: false,
-        };
-    }
-    if text < end {
-        let last = end - 1;
-        if table[last] == b'\\' {
-            return Built {
-                n: append(table, text, last, out, n),
-                found: true,
-                whole: true,
-            };
-        }
-    }
-    Built {
-        n: append(table, text, next, out, n),
-        found: true,
-        whole: false,
+    let text = from_text
+        .split_inclusive(|b| *b == b'\n')
+        .next()
+        .unwrap_or(b"");
+    let bare = text.strip_suffix(b"\n".as_slice()).unwrap_or(text);
+    match bare.strip_suffix(b"\\".as_slice()) {
+        Some(last) => Some(Edit::Last(last)),
+        None => Some(Edit::Line(text)),
     }
 }
 
-// The texts of all lines of the row with this number.
-fn edits(table: &[u8], first: usize, end: usize, k: u8, out: &mut [u8], n: usize) -> Built
-    requires { (first ≤ end) × (end ≤ length table.now) × (n ≤ length out.old) × (k < 100) }
-    ensures { result.n ≤ length out.old }
-{
-    let mut built = Built {
-        n,
-        found: false,
-        whole: false,
-    };
-    let mut at = first;
-    while at < end {
-        built = edit(table, at, k, out, built);
-        if built.whole {
-            return built;
-        }
-        at = next_line(table, at);
-    }
-    built
-}
-
-// A line of the table's sheet, the one with this number, if the row has none for it. That sheet has eleven lines.
-fn kept(table: &[u8], base: usize, next: usize, k: u8, out: &mut [u8], built: Built) -> usize
-    requires { (base ≤ next) × (next ≤ length table.now) × (built.n ≤ length out.old) }
-    ensures { result ≤ length out.old }
-{
-    let n = built.n;
-    if built.found {
-        return n;
-    }
-    if 11 < k {
-        return n;
-    }
-    append(table, base, next, out, n)
-}
-
-// The sheet of the row.
-pub(crate) fn sheet(table: &[u8], first: usize, end: usize, out: &mut [u8]) -> usize
-    requires { (first ≤ end) × (end ≤ length table.now) }
+// The sheet of the row that has these lines: the table's first eleven lines, but for those that the row has others for, or none, and a twelfth if the row has
+// one. `behind` is the table from the row's lines on.
+pub(crate) fn sheet(table: &[u8], row: &[u8], behind: &[u8], out: &mut [u8]) -> usize
+    requires { length row.now ≤ length behind.now }
     ensures { (result ≤ length out.new) × (result ≡ length (take result out.new)) }
 {
     let mut n = 0;
-    let mut base = 0;
-    let mut k = 1;
-    while k <= 12 {
-        let built = edits(table, first, end, k, out, n);
-        if built.whole {
-            return built.n;
+    let mut lines = table.split_inclusive(|b| *b == b'\n').take(11);
+    for k in 1..=12 {
+        let mut kept = lines.next();
+        let mut rest = behind;
+        for line in row.split_inclusive(|b| *b == b'\n') {
+            match edit_of(rest, k) {
+                Some(Edit::Line(text)) => {
+                    kept = None;
+                    n = append(out, n, text);
+                }
+                Some(Edit::Last(text)) => return append(out, n, text),
+                None => {}
+            }
+            rest = &rest[line.len()..];
         }
-        let next = next_line(table, base);
-        n = kept(table, base, next, k, out, built);
-        base = next;
-        k += 1;
+        if let Some(line) = kept {
+            n = append(out, n, line);
+        }
     }
     n
 }
 
-// The text of the line at this place, if it is one of the answer.
-fn said(table: &[u8], at: usize, next: usize, out: &mut [u8], n: usize) -> usize
-    requires { (at < next) × (next ≤ length table.now) × (n ≤ length out.old) }
-    ensures { result ≤ length out.old }
-{
-    if table[at] != b'>' {
-        return n;
-    }
-    let text = behind_mark(at, next);
-    append(table, text, next, out, n)
-}
-
 // The answer of the row.
-pub(crate) fn answer(table: &[u8], first: usize, end: usize, out: &mut [u8]) -> usize
-    requires { (first ≤ end) × (end ≤ length table.now) }
+pub(crate) fn answer(row: &[u8], out: &mut [u8]) -> usize
     ensures { (result ≤ length out.new) × (result ≡ length (take result out.new)) }
 {
     let mut n = 0;
-    let mut at = first;
-    while at < end {
-        let next = next_line(table, at);
-        n = said(table, at, next, out, n);
-        at = next;
+    for line in row.split_inclusive(|b| *b == b'\n') {
+        if line.starts_with(b">") {
+            n = append(out, n, behind_mark(line));
+        }
     }
     n
 }

@@ -1,52 +1,32 @@
-// The lines of a table, by the places where they start.
-ghost use Rattle.std.specs.Prelude.{◌+◌, ◌≤◌, min, length};
+// The lines of a table.
+ghost use Rattle.std.specs.Prelude.{◌≡◌, ◌+◌, ◌<◌, length};
 
-// The LF that ends the line, or the table's end.
-pub(crate) fn line_end(table: &[u8], at: usize) -> usize
-    requires { at ≤ length table.now }
-    ensures { (at ≤ result) × (result ≤ length table.now) }
+// The first line, without its LF, and what stands behind it.
+pub(crate) fn first_line(text: &[u8]) -> (&[u8], &[u8])
+    requires { 0 < length text.now }
+    ensures { length result.1.now < length text.now }
 {
-    let mut end = at;
-    while end < table.len() {
-        if table[end] == b'\n' {
-            return end;
+    match text.iter().position(|b| *b == b'\n') {
+        Some(end) => (&text[..end], &text[end + 1..]),
+        None => (text, b""),
+    }
+}
+
+// The text of a line that has a mark and a space in front of it, or any byte in the place of the space.
+pub(crate) fn behind_mark(line: &[u8]) -> &[u8] {
+    line.get(2..).unwrap_or(b"")
+}
+
+// What stands before the first line of a row, and from it on.
+pub(crate) fn until_row(text: &[u8]) -> (&[u8], &[u8])
+    ensures { length result.0.now + length result.1.now ≡ length text.now }
+{
+    let mut end = 0;
+    for line in text.split_inclusive(|b| *b == b'\n') {
+        if line.starts_with(b"#") {
+            break;
         }
-        end += 1;
+        end += line.len();
     }
-    end
-}
-
-// Where the text of a line starts that has a mark and a space in front of it.
-pub(crate) fn behind_mark(at: usize, end: usize) -> usize
-    requires { at ≤ end }
-    ensures { result ≤ end }
-{
-    if end - at < 2 { end } else { at + 2 }
-}
-
-// Where the next line starts.
-pub(crate) fn next_line(table: &[u8], at: usize) -> usize
-    requires { at ≤ length table.now }
-    ensures { (at ≤ result) × (result ≤ length table.now) × (min (at + 1) (length table.now) ≤ result) }
-{
-    let end = line_end(table, at);
-    if end < table.len() {
-        return end + 1;
-    }
-    end
-}
-
-// Where the next row starts, from the start of a line on.
-pub(crate) fn next_row(table: &[u8], from: usize) -> usize
-    requires { from ≤ length table.now }
-    ensures { (from ≤ result) × (result ≤ length table.now) }
-{
-    let mut at = from;
-    while at < table.len() {
-        if table[at] == b'#' {
-            return at;
-        }
-        at = next_line(table, at);
-    }
-    at
+    text.split_at(end)
 }

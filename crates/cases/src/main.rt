@@ -8,6 +8,7 @@ mod build; // build.rt: the sheet and the answer of a row
 ghost use Rattle.std.specs.Prelude.{◌≤◌, length, IfOk};
 
 use answer::ANSWER_ROOM;
+use lines::{behind_mark, first_line, until_row};
 use std::io;
 use std::io::Read;
 
@@ -17,58 +18,50 @@ const TABLE_ROOM: usize = 65536;
 // What is said of a row.
 fn report(rt: &impl Print, name: &[u8], want: &[u8], got: &[u8]) -> io::Result<()> {
     rt.write_all(name)?;
-    if check::same(want, got) {
+    if want == got {
         return rt.write_all(b": ok\n");
     }
     rt.write_all(b": differs, and gives\n")?;
     rt.write_all(got)
 }
 
-// The row whose name stands from `name` to `named`, and whose lines from `first` to `end`.
-fn row(
-    rt: &impl Print,
-    table: &[u8],
-    name: usize,
-    named: usize,
-    first: usize,
-    end: usize,
-) -> io::Result<()>
-    requires { (name ≤ named) × (named ≤ length table.now) × (first ≤ end) × (end ≤ length table.now) }
+// The row of this name, whose lines these are, and `behind` the table from them on.
+fn row(rt: &impl Print, table: &[u8], name: &[u8], lines: &[u8], behind: &[u8]) -> io::Result<()>
+    requires { length lines.now ≤ length behind.now }
 {
     let mut sheet = [0u8; 8192];
-    let n = build::sheet(table, first, end, &mut sheet);
+    let n = build::sheet(table, lines, behind, &mut sheet);
     let mut out = [0u8; ANSWER_ROOM];
     let count = answer::answer(&sheet[..n], &mut out);
     let mut want = [0u8; 4096];
-    let m = build::answer(table, first, end, &mut want);
-    report(rt, &table[name..named], &want[..m], &out[..count])
+    let m = build::answer(lines, &mut want);
+    report(rt, name, &want[..m], &out[..count])
 }
 
 // Every row.
 fn rows(rt: &impl Print, table: &[u8]) -> io::Result<()> {
-    let mut at = lines::next_row(table, 0);
-    while at < table.len() {
-        let named = lines::line_end(table, at);
-        let first = lines::next_line(table, at);
-        let end = lines::next_row(table, first);
-        let name = lines::behind_mark(at, named);
-        row(rt, table, name, named, first, end)?;
-        at = end;
+    let (_, mut rest) = until_row(table);
+    // it counts nothing: a row tells where the next one begins
+    while !rest.is_empty() {
+        let (mark, behind) = first_line(rest);
+        let (lines, next) = until_row(behind);
+        row(rt, table, behind_mark(mark), lines, behind)?;
+        rest = next;
     }
     Ok(())
 }
 
-// Reads to the end of the buffer or of the input: how many bytes those are.
+// Reads to the end of the buffer or of the input: how many bytes those are. jobsheet has a function like this one; there a read that fails ends the input, and
+// here the program. The loop counts no index: a read gives as many bytes as have come. None is made where the buffer is full, since it could fail.
 fn read_full(input: &mut impl Read, buffer: &mut [u8]) -> io::Result<usize>
     ensures { IfOk result (λ n. n ≤ length buffer.new) }
 {
     let mut n = 0;
     while n < buffer.len() {
-        let more = input.read(&mut buffer[n..])?;
-        if more == 0 {
-            return Ok(n);
+        match input.read(&mut buffer[n..])? {
+            0 => break,
+            more => n += more,
         }
-        n += more;
     }
     Ok(n)
 }

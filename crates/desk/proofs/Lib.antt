@@ -1,5 +1,5 @@
 pub mod Outs
 pub mod Table
-pub mod Lowest
+pub mod FirstOff
 pub mod Library
 pub mod Determined

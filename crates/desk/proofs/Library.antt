@@ -14,6 +14,7 @@ use Rattle.laws.specs.Bit.{on, first_below}
 use Rattle.laws.proofs.On.{on_none}
 use Rattle.laws.proofs.First.{first_le, first_found, first_least}
 use Rattle.laws.proofs.Truth.{off_on}
+use Rattle.std.specs.Prelude.{None}
 use Rattle.meaning.specs.Theory.{state_before}
 use Rattle.meaning.specs.Refusal.{Row, ◌when◌, Accepted, Refused}
 use Rattle.meaning.proofs.Refusal.{here, past, passes, accepts, accepted_parts, refused_behind, not_first}
@@ -21,9 +22,10 @@ use Rattle.theory.specs.Subject.{setting_of, world_of}
 use Rattle.theory.specs.Rows.{theory_rows, log_rows, position_rows}
 use Rattle.theory.specs.Answer.{StateAnswered}
 use Rattle.theory.specs.Possible.{asked_rows, PossibleAnswered}
-use Rattle.desk.specs.Log.{carton_limit, step_limit, label_of, Out, LowestIs, AllOut}
-use Rattle.desk.specs.Answer.{BadCartons, BadLabel, BadSteps, PrintAnswered, LowestAnswered}
-use Rattle.desk.specs.Labels.{LabelTheory, desk_subject, lowest_off, slot_of}
+use Rattle.exported.specs.Exported.{slot_of}
+use Rattle.desk.specs.Log.{carton_limit, step_limit, label_of, Out}
+use Rattle.desk.specs.Answer.{BadCartons, BadLabel, BadSteps, PrintAnswered, NextIs, NextAnswered}
+use Rattle.desk.specs.Labels.{LabelTheory, desk_subject, lowest_off}
 use Rattle.desk.proofs.Outs.{on_out, possible_print}
 use Rattle.desk.proofs.Table.{all_low}
 
@@ -85,18 +87,17 @@ module _ (cartons : ℕ) (masks log : List ℕ) (right : BadCartons cartons → 
 
     -- the state as labels: the lowest that is off is the lowest that is not out
     lowest_off_law : ((k : ℕ) → k < length log → get_or log k 0 ≤ cartons)
-        → let state = state_before (world_of (desk_subject cartons masks log)) (length log) in LowestIs cartons log (lowest_off cartons state) ⊎ ((lowest_off cartons state ≡ 0) × AllOut cartons log)
+        → let state = state_before (world_of (desk_subject cartons masks log)) (length log) in NextIs cartons log (lowest_off cartons state)
     lowest_off_law steps = elim (dec_lt first cartons) [
       | yes there ↦
-          inl
-          (rw (lt-ltb first cartons there)
+          rw (lt-ltb first cartons there)
           (record {
             above = omega arith;
             within = omega arith;
             missing = λ out. off_on (not-true (on state first) (first_found cartons off there)) ((is-out first there).1 out);
             lowest = λ lower h l. out lower h (omega arith) (omega arith);
-          }))
-      | no all ↦ inr (rw (le-ltb first cartons (omega arith)), λ label h l. out label h l (omega (arith, first_le cartons off)))
+          })
+      | no all ↦ rw (le-ltb first cartons (omega arith)) (λ label h l. out label h l (omega (arith, first_le cartons off)))
     ]
       where
         state : ℕ
@@ -157,18 +158,16 @@ module _ (cartons : ℕ) (masks log : List ℕ) (right : BadCartons cartons → 
     within refused = ⊎_elim (λ late. omega (arith, late.1)) (λ more. more.1) refused.first
 
     pub lowest_refused : {number state : ℕ} → StateAnswered (desk_subject cartons masks log) (length log) number state → (number ≡ 0 → ⊥)
-        → LowestAnswered cartons log number 0
+        → NextAnswered cartons log number None
     lowest_refused (inl r) given = inl (record { refused = refuses right (log_refused end within (refused_behind theory (logged ++ end) sound r.refused)); blank = refl })
     lowest_refused (inr a) given = absurd (given a.none)
 
-    pub lowest_told : {state : ℕ} → StateAnswered (desk_subject cartons masks log) (length log) 0 state → LowestAnswered cartons log 0 (lowest_off cartons state)
+    pub lowest_told : {state : ℕ} → StateAnswered (desk_subject cartons masks log) (length log) 0 state → NextAnswered cartons log 0 (lowest_off cartons state)
     lowest_told (inl r) = absurd (omega (arith, (log_refused end within (refused_behind theory (logged ++ end) sound r.refused)).0))
     lowest_told {state} (inr a) =
         let sound-log = (accepted_parts logged end (accepted_parts theory (logged ++ end) a.accepted).1).0 in
         inr (record {
           none = refl;
           accepted = passes right (passes (fine sound-log) accepts);
-          right =
-              subst (λ (s : ℕ). LowestIs cartons log (lowest_off cartons s) ⊎ ((lowest_off cartons s ≡ 0) × AllOut cartons log)) (sym a.right)
-              (lowest_off_law (known sound-log));
+          right = subst (λ (s : ℕ). NextIs cartons log (lowest_off cartons s)) (sym a.right) (lowest_off_law (known sound-log));
         })

@@ -3,11 +3,11 @@ use mathlib.Core.Path.{◌≡◌, refl, sym, ap, subst, ◌∙◌}
 use mathlib.Core.Bool.{true}
 use mathlib.Core.List.{List, [], ◌∷◌, ◌++◌}
 use Prim.Native.Nat.{ℕ, zero, suc, ◌+◌, ◌*◌, ◌/◌, ◌%◌, ◌^◌, ◌≤◌, ◌<◌}
-use native.Mathlib.Nat.{one-mul, mod-eq_of_lt, min-le_right}
+use native.Mathlib.Nat.{one-mul, mod-eq_of_lt}
 use native.Mathlib.Decide.{ℕ_discrete}
 use native.Mathlib.Omega.{arith}
 use borrow.Author.Tests.{ltb-true, eqb-true}
-use lib.ListN.{length, get_or, set, take, length-take}
+use lib.ListN.{length, get_or, set, take}
 use lib.Pow.{pow-lt, pow_pos}
 use lib.Seq.{get_or-take, length-take-le}
 use Rattle.laws.specs.Bit.{on}
@@ -138,10 +138,3 @@ module _ (cartons : ℕ) (masks : List ℕ) (labels : LabelTheory cartons masks)
             let row = labels.prints a (omega arith) in
             subst (λ (m : Masks). Low cartons (get_or (listed m) i 0)) (sym row) (row_low (lower_of a) 0 (2 ^ a) 0 (lower _ a (omega arith) refl) (none 0 refl) (own _ a (omega arith) refl) (none 0 refl) i)
       ])
-
--- the room holds the table
-pub holds_table : (cartons : ℕ) (room : List ℕ) → LabelTheory cartons (take (stride * (cartons + 1)) room) → stride * (cartons + 1) ≤ length room
-holds_table cartons room labels =
-    let front : length (take (stride * (cartons + 1)) room) ≤ length room = rw length-take (min-le_right (stride * (cartons + 1)) (length room)) in
-    let table = labels.table in
-    omega arith

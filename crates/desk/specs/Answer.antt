@@ -1,5 +1,5 @@
--- What the desk's two calls answer: the refusals with their numbers, and the slot.
-use Rattle.std.specs.Prelude.{◌≡◌, ◌⊎◌, List, [], ◌∷◌, ℕ, ◌+◌, ◌<◌}
+-- What the desk's two calls answer: the refusals with their numbers, and the value or the slot.
+use Rattle.std.specs.Prelude.{◌≡◌, ◌⊎◌, List, [], ◌∷◌, ℕ, ◌+◌, ◌<◌, Option, Some, None}
 use Rattle.meaning.specs.Refusal.{Row, ◌when◌, Answered, BadLog}
 use Rattle.desk.specs.Log.{carton_limit, step_limit, MayPrint, LowestIs, AllOut}
 
@@ -33,3 +33,13 @@ PrintAnswered cartons log label number slot =
 abbrev pub LowestAnswered : ℕ → List ℕ → ℕ → ℕ → Type 0
 LowestAnswered cartons log number slot =
     Answered (lowest_rows cartons log) number (slot ≡ 0) (LowestIs cartons log slot ⊎ ((slot ≡ 0) × AllOut cartons log))
+
+-- the label that comes next, or that all are out
+abbrev pub NextIs : ℕ → List ℕ → Option ℕ → Type 0
+NextIs cartons log (Some label) = LowestIs cartons log label
+NextIs cartons log None = AllOut cartons log
+
+-- the same answer with the label as a value: there is none where all are out, and on a refusal
+abbrev pub NextAnswered : ℕ → List ℕ → ℕ → Option ℕ → Type 0
+NextAnswered cartons log number next =
+    Answered (lowest_rows cartons log) number (next ≡ None) (NextIs cartons log next)

@@ -1,6 +1,5 @@
 -- "a theory whose print k needs all lower labels": what the library is asked about. Fluent i is that label i + 1 is out.
-use Rattle.std.specs.Prelude.{◌≡◌, Bool, true, false, cond, not, List, ℕ, ◌+◌, ◌-◌, ◌*◌, ◌^◌, ◌<◌, ltb, length}
-use Rattle.std.proofs.Math.Option.{Option, none, some}
+use Rattle.std.specs.Prelude.{◌≡◌, cond, not, List, ℕ, ◌+◌, ◌-◌, ◌*◌, ◌^◌, ◌<◌, ltb, length, Option, Some, None}
 use Rattle.laws.specs.Bit.{on, first_below}
 use Rattle.meaning.specs.Theory.{Masks, stride}
 use Rattle.meaning.specs.Four.{plain_masks}
@@ -32,14 +31,8 @@ table_room = stride * (carton_limit + 1)
 abbrev pub desk_subject : ℕ → List ℕ → List ℕ → Subject
 desk_subject cartons masks log = subject_of (setting_of cartons (cartons + 1) 0 0 0) masks log
 
--- the lowest label whose fluent is off, 0 where none is
-abbrev pub lowest_off : ℕ → ℕ → ℕ
+-- the lowest label whose fluent is off, if one is
+abbrev pub lowest_off : ℕ → ℕ → Option ℕ
 lowest_off cartons state =
     let first = first_below cartons (λ i. not (on state i)) in
-    cond (ltb first cartons) (label_of first) 0
-
--- a verdict of the library in a slot
-abbrev pub slot_of : Option Bool → ℕ
-slot_of none = 0
-slot_of (some true) = 1
-slot_of (some false) = 0
+    cond (ltb first cartons) (Some (label_of first)) None

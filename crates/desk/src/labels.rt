@@ -1,14 +1,12 @@
 // The theory of a job of cartons: fluent i is that label i + 1 is out, action i prints it, the last action voids all. The library's calls are asked about it.
-ghost use Rattle.std.specs.Prelude.{◌≡◌, ◌↔◌, true, ◌+◌, ◌*◌, ◌≤◌, length, take};
-ghost use Rattle.meaning.specs.Theory.{stride};
-ghost use Rattle.theory.specs.Subject.{setting_of};
+ghost use Rattle.std.specs.Prelude.{◌≡◌, ◌↔◌, true, ◌≤◌, length};
 ghost use Rattle.desk.specs.Log.{carton_limit};
 ghost use Rattle.desk.specs.Answer.{BadCartons, BadLabel};
 ghost use Rattle.desk.specs.Labels.{LabelTheory, table_room, lowest_off};
 
 use crate::CARTON_LIMIT;
+use theory::STRIDE;
 use theory::rows::plain_row;
-use theory::{Counts, STRIDE, Setting};
 
 // A row for each print, and one for the void.
 pub const ROOM: usize = STRIDE * (CARTON_LIMIT + 1);
@@ -17,66 +15,41 @@ pub const ROOM: usize = STRIDE * (CARTON_LIMIT + 1);
 pub(crate) fn bad_cartons(cartons: usize) -> bool
     ensures { (result ≡ true) ↔ BadCartons cartons }
 {
-    if cartons < 1 {
-        return true;
-    }
-    CARTON_LIMIT < cartons
+    cartons < 1 || CARTON_LIMIT < cartons
 }
 
-// The label is none of the job's.
+// The label is none of the job's. What this test has in common with the one above is its form alone.
 pub(crate) fn bad_label(cartons: usize, label: usize) -> bool
     ensures { (result ≡ true) ↔ BadLabel cartons label }
 {
-    if label < 1 {
-        return true;
-    }
-    cartons < label
-}
-
-// Counts and start: a fluent for each label, none of them on, and no rule that could have a variable.
-pub(crate) fn setting(cartons: usize) -> Setting
-    requires { cartons ≤ carton_limit }
-    ensures { result ≡ setting_of cartons (cartons + 1) 0 0 0 }
-{
-    let counts = Counts {
-        fluents: cartons,
-        actions: cartons + 1,
-        domain: 0,
-    };
-    Setting {
-        counts,
-        start: 0,
-        reading: 0,
-    }
+    label < 1 || cartons < label
 }
 
 // The table, in the front of the room: a print needs the lower labels and puts its own, the void drops all.
-pub(crate) fn fill(cartons: usize, masks: &mut [u32; ROOM])
+pub(crate) fn fill(cartons: usize, masks: &mut [u32; ROOM]) -> &[u32]
     requires { (cartons ≤ carton_limit) × (length masks.old ≡ table_room) }
-    ensures { LabelTheory cartons (take (stride * (cartons + 1)) masks.new) }
+    ensures { LabelTheory cartons result.now }
 {
-    let mut a = 0;
-    while a < cartons {
+    for a in 0..cartons {
         let own = 1u32 << a;
         let lower = own - 1;
         plain_row(masks, a, lower, 0, own, 0);
-        a += 1;
     }
     let beyond = 1u32 << cartons;
     let all = beyond - 1;
     plain_row(masks, cartons, 0, 0, 0, all);
+    &masks[..STRIDE * (cartons + 1)]
 }
 
-// The first label that is off in the state; 0 where none of them is.
-pub(crate) fn lowest(cartons: usize, out: u32) -> usize
+// The first label that is off in the state, if one is.
+pub(crate) fn lowest(cartons: usize, out: u32) -> Option<usize>
     requires { cartons ≤ carton_limit }
     ensures { result ≡ lowest_off cartons out }
 {
-    let missing = !out;
-    let first = u32::trailing_zeros(missing);
-    let i = first as usize;
-    if i < cartons {
-        return i + 1;
+    let first = (!out).trailing_zeros() as usize;
+    if first < cartons {
+        Some(first + 1)
+    } else {
+        None
     }
-    0
 }

@@ -1,68 +1,69 @@
 #![tactic(auto)]
 // The carton desk, for packers who write no rules: whether a label may be printed, and which is the lowest that is not out. It asks the library about a theory
 // in which the print of a label needs all lower ones, and knows of its calls what they promise. Nothing is kept between calls.
-ghost use Rattle.desk.specs.Answer.{PrintAnswered, LowestAnswered};
+ghost use Rattle.std.specs.Prelude.{MatchResult, length, ◌≡◌, ◌+◌, ◌≤◌};
+ghost use Rattle.refusal.specs.Number.{number_of};
+ghost use Rattle.refusal.specs.Given.{number_given, value_given};
+ghost use Rattle.theory.specs.Possible.{verdict_given};
+ghost use Rattle.theory.specs.Subject.{setting_of};
+ghost use Rattle.meaning.specs.Refusal.{Refused};
+ghost use Rattle.exported.specs.Exported.{slot_of};
+ghost use Rattle.desk.specs.Log.{step_limit};
+ghost use Rattle.desk.specs.Answer.{BadCartons, PrintAnswered, NextAnswered, lowest_rows};
+ghost use Rattle.desk.specs.Labels.{LabelTheory};
 
 mod labels; // labels.rt: the theory that the library is asked about, and the state read as labels
 
 use labels::ROOM;
-use theory::{PossibleAnswer, STRIDE, StateAnswer};
+use refusal::Refusal;
+use theory::{Asked, Setting};
 
 // The desk's own limits; how long a log the library takes is another matter.
 pub const CARTON_LIMIT: usize = 16;
 
 pub const LOG_LIMIT: usize = 63;
 
-// Whether the label may be printed at the log's end: 1 or 0 in the slot.
-pub fn desk_may_print(cartons: usize, log: &[u8], label: usize, yes: &mut u8) -> u8
-    ensures { PrintAnswered cartons log.now label result yes.new }
+// What the library is asked of, where the cartons and the log are within the desk's limits: the theory of the job, its table in the front of the lent room.
+fn asked_of<'a>(
+    cartons: usize,
+    log: &'a [u8],
+    room: &'a mut [u32; ROOM],
+) -> Result<Asked<'a>, Refusal>
+    ensures { MatchResult result (λ asked. (¬ BadCartons cartons) × (length log.now ≤ step_limit) × LabelTheory cartons asked.masks.now × (asked.setting ≡ setting_of cartons (cartons + 1) 0 0 0) × (asked.log.now ≡ log.now)) (λ why. Refused (lowest_rows cartons log.now) (number_of why)) }
 {
-    *yes = 0;
     if labels::bad_cartons(cartons) {
-        return 3;
-    }
-    if labels::bad_label(cartons, label) {
-        return 3;
+        return Err(Refusal::BadNumber);
     }
     if LOG_LIMIT < log.len() {
-        return 5;
+        return Err(Refusal::BadLog);
     }
-    let mut masks = [0u32; ROOM];
-    labels::fill(cartons, &mut masks);
-    let s = labels::setting(cartons);
-    let used = STRIDE * (cartons + 1);
-    let end = log.len();
-    match theory::possible(s, &masks[..used], log, label - 1, end) {
-        PossibleAnswer::Refused(why) => refusal::number(why),
-        PossibleAnswer::Yes => {
-            *yes = 1;
-            0
-        }
-        PossibleAnswer::No => 0,
-    }
+    let masks = labels::fill(cartons, room);
+    let setting = Setting::of(cartons, cartons + 1, 0, 0, 0);
+    Ok(Asked {
+        setting,
+        masks,
+        log,
+    })
 }
 
-// The lowest label that is not out at the log's end; 0 where all are out.
-pub fn desk_lowest(cartons: usize, log: &[u8], label: &mut usize) -> u8
-    ensures { LowestAnswered cartons log.now result label.new }
+// Whether the label may be printed at the log's end.
+pub fn may_print(cartons: usize, log: &[u8], label: usize) -> Result<bool, Refusal>
+    ensures { PrintAnswered cartons log.now label (number_given result) (slot_of (verdict_given result)) }
 {
-    *label = 0;
-    if labels::bad_cartons(cartons) {
-        return 3;
+    if labels::bad_label(cartons, label) {
+        return Err(Refusal::BadNumber);
     }
-    if LOG_LIMIT < log.len() {
-        return 5;
-    }
-    let mut masks = [0u32; ROOM];
-    labels::fill(cartons, &mut masks);
-    let s = labels::setting(cartons);
-    let used = STRIDE * (cartons + 1);
-    let end = log.len();
-    match theory::state(s, &masks[..used], log, end) {
-        StateAnswer::Refused(why) => refusal::number(why),
-        StateAnswer::State(out) => {
-            *label = labels::lowest(cartons, out);
-            0
-        }
-    }
+    let mut room = [0u32; ROOM];
+    let asked = asked_of(cartons, log, &mut room)?;
+    theory::possible(asked, label - 1, log.len())
+}
+
+// The lowest label that is not out at the log's end, if not all are.
+pub fn lowest(cartons: usize, log: &[u8]) -> Result<Option<usize>, Refusal>
+    ensures { NextAnswered cartons log.now (number_given result) (value_given None result) }
+{
+    let mut room = [0u32; ROOM];
+    let asked = asked_of(cartons, log, &mut room)?;
+    let out = theory::state(asked, log.len())?;
+    Ok(labels::lowest(cartons, out))
 }

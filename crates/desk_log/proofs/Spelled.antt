@@ -1,16 +1,16 @@
 -- A label's number as its writer leaves it, and the labels that a line was held against. Knows bytes and numbers; no code.
-use mathlib.Core.Path.{◌≡◌, sym, ap, subst, ◌∙◌}
-use mathlib.Core.Logic.{inl, inr, ⊎_elim}
+use mathlib.Core.Path.{◌≡◌, refl, sym, ap, ◌∙◌}
+use mathlib.Core.Logic.{inl, inr}
+use Rattle.std.specs.Prelude.{Option, Some, None}
 use mathlib.Core.List.{List}
-use Prim.Native.Nat.{ℕ, ◌+◌, ◌-◌, ◌≤◌, ◌<◌}
+use Prim.Native.Nat.{ℕ, ◌+◌, ◌≤◌, ◌<◌}
 use native.Mathlib.Decide.{ℕ_discrete, dec_lt}
 use native.Mathlib.Omega.{arith}
 use lib.ListN.{length, take, drop}
 use lib.Seq.{take_at}
 use Rattle.spelling.specs.Decimal.{decimal}
 use Rattle.spelling.specs.Wrote.{Wrote}
-use Rattle.desk.specs.Log.{label_of}
-use Rattle.desk_log.specs.Entry.{NumberOf, NoNumber, LabelRead, EntryIs}
+use Rattle.desk_log.specs.Entry.{NumberOf, LabelRead, EntryIs}
 use Rattle.spelling.proofs.Plain.{length_decimal}
 use Rattle.spelling.proofs.Writing.{wrote_length, wrote_front}
 
@@ -33,34 +33,26 @@ passed_more {k = k} old other lower h l e = elim (ℕ_discrete lower k) [
   | no before ↦ old lower h (omega arith) e
 ]
 
--- what was read of a line, as its entry
-pub no_label : {most label : ℕ} {line : List ℕ} → LabelRead most line label → label ≡ 0 → NoNumber most line
-no_label read none = ⊎_elim (λ n. absurd (omega (arith, n.above))) (λ n. n.1) read
-
-pub some_label : {most label : ℕ} {line : List ℕ} → LabelRead most line label → (label ≡ 0 → ⊥) → NumberOf most line (label_of (label - 1))
-some_label {most} {label} {line} read some =
-    let same : label ≡ label_of (label - 1) = omega (arith, some) in
-    ⊎_elim (λ n. subst (NumberOf most line) same n) (λ n. absurd (some n.0)) read
-
 -- a line is one entry
-pub label_determined : {most label label' : ℕ} {line : List ℕ} → LabelRead most line label → LabelRead most line label' → label ≡ label'
-label_determined {label = a} {label' = b} (inl x) (inl y) = elim (dec_lt a b) [
+one_label : {most a b : ℕ} {line : List ℕ} → NumberOf most line a → NumberOf most line b → a ≡ b
+one_label {a = a} {b = b} x y = elim (dec_lt a b) [
   | yes low ↦ absurd (y.first a x.above low x.spells)
   | no here ↦ elim (dec_lt b a) [ yes low ↦ absurd (x.first b y.above low y.spells) | no there ↦ omega arith ]
 ]
-label_determined {label = a} (inl x) (inr y) = absurd (y.1 a x.above x.within x.spells)
-label_determined {label' = b} (inr x) (inl y) = absurd (x.1 b y.above y.within y.spells)
-label_determined (inr x) (inr y) = x.0 ∙ sym y.0
 
-pub entry_determined : {cartons action action' : ℕ} {line : List ℕ} → EntryIs cartons line action → EntryIs cartons line action' → action ≡ action'
-entry_determined (inl x) (inl y) = x.1 ∙ sym y.1
-entry_determined (inl x) (inr y) = absurd (y.0 x.0)
-entry_determined (inr x) (inl y) = absurd (x.0 y.0)
-entry_determined (inr (f, inl x)) (inr (g, inl y)) = let e = label_determined (inl x) (inl y) in omega arith
-entry_determined (inr (f, inl x)) (inr (g, inr y)) = absurd (y.1 _ x.above x.within x.spells)
-entry_determined (inr (f, inr x)) (inr (g, inl y)) = absurd (x.1 _ y.above y.within y.spells)
-entry_determined (inr (f, inr x)) (inr (g, inr y)) = x.0 ∙ sym y.0
+pub label_determined : (most : ℕ) (line : List ℕ) (label label' : Option ℕ) → LabelRead most line label → LabelRead most line label' → label ≡ label'
+label_determined most line (Some a) (Some b) x y = ap Some (one_label x y)
+label_determined most line (Some a) None x y = absurd (y a x.above x.within x.spells)
+label_determined most line None (Some b) x y = absurd (x b y.above y.within y.spells)
+label_determined most line None None x y = refl
 
-pub label_most : {most label : ℕ} {line : List ℕ} → LabelRead most line label → label ≤ most
-label_most (inl n) = n.within
-label_most (inr n) = omega (arith, n.0)
+pub entry_determined : (cartons : ℕ) (line : List ℕ) (action action' : Option ℕ) → EntryIs cartons line action → EntryIs cartons line action' → action ≡ action'
+entry_determined cartons line (Some a) (Some b) (inl x) (inl y) = ap Some (x.1 ∙ sym y.1)
+entry_determined cartons line (Some a) (Some b) (inl x) (inr y) = absurd (y.0 x.0)
+entry_determined cartons line (Some a) (Some b) (inr x) (inl y) = absurd (x.0 y.0)
+entry_determined cartons line (Some a) (Some b) (inr x) (inr y) = let e = one_label x.1 y.1 in ap Some (omega arith)
+entry_determined cartons line (Some a) None (inl x) y = absurd (y.0 x.0)
+entry_determined cartons line (Some a) None (inr x) y = absurd (y.1 _ x.1.above x.1.within x.1.spells)
+entry_determined cartons line None (Some b) x (inl y) = absurd (x.0 y.0)
+entry_determined cartons line None (Some b) x (inr y) = absurd (x.1 _ y.1.above y.1.within y.1.spells)
+entry_determined cartons line None None x y = refl

@@ -6,34 +6,29 @@ ghost use Rattle.desk_log.specs.Entry.{LabelRead, EntryIs};
 // Plain decimals of a label fit here.
 const ROOM: usize = 3;
 
-// The label up to this one that the line is the number of; 0 where it is of none.
-pub(crate) fn label(most: usize, line: &[u8]) -> usize
+// The label up to this one that the line is the number of, if it is of any.
+pub(crate) fn label(most: usize, line: &[u8]) -> Option<usize>
     requires { most ≤ carton_limit }
     ensures { LabelRead most line.now result }
 {
-    let mut k = 1;
-    while k <= most {
+    for k in 1..=most {
         let mut text = [0u8; ROOM];
         let n = spelling::put::decimal(&mut text, 0, k as u32);
-        if check::same(line, &text[..n]) {
-            return k;
+        if line == &text[..n] {
+            return Some(k);
         }
-        k += 1;
     }
-    0
+    None
 }
 
-// The action that the line stands for: a label's print, or the void, which is the last; one more where it is neither.
-pub(crate) fn action(cartons: usize, line: &[u8]) -> usize
+// The action that the line stands for, if for any: a label's print, or the void, which is the last.
+pub(crate) fn action(cartons: usize, line: &[u8]) -> Option<usize>
     requires { cartons ≤ carton_limit }
     ensures { EntryIs cartons line.now result }
 {
-    if check::same(line, b"void") {
-        return cartons;
+    if line == b"void".as_slice() {
+        return Some(cartons);
     }
-    let k = label(cartons, line);
-    if k == 0 {
-        return cartons + 1;
-    }
-    k - 1
+    let k = label(cartons, line)?;
+    Some(k - 1)
 }

@@ -3,7 +3,8 @@
 // which label comes next. How many cartons there are is the argument.
 ghost use Rattle.std.specs.Prelude.{◌≡◌, ◌↔◌, true, ◌≤◌, length, take};
 ghost use Rattle.desk.specs.Log.{carton_limit, step_limit, void_of};
-ghost use Rattle.desk_log.specs.Reply.{Kept, InOrder, NextIs};
+ghost use Rattle.desk.specs.Answer.{NextIs};
+ghost use Rattle.desk_log.specs.Reply.{Kept, InOrder};
 
 mod entry; // entry.rt: what a line says
 
@@ -30,27 +31,24 @@ fn in_order(cartons: usize, log: &[u8], action: usize) -> bool
     if cartons <= action {
         return true;
     }
-    let mut yes = 0u8;
-    desk::desk_may_print(cartons, log, action + 1, &mut yes);
-    yes == 1
+    desk::may_print(cartons, log, action + 1).unwrap_or(false)
 }
 
-// The label that comes next; 0 where all are out.
-fn next(cartons: usize, log: &[u8]) -> usize
+// The label that comes next, if not all are out.
+fn next(cartons: usize, log: &[u8]) -> Option<usize>
     requires { Kept cartons log.now }
     ensures { NextIs cartons log.now result }
 {
-    let mut label = 0usize;
-    desk::desk_lowest(cartons, log, &mut label);
-    label
+    desk::lowest(cartons, log).unwrap_or(None)
 }
 
-fn say_next(rt: &impl Print, label: usize) {
-    if label == 0 {
-        say(rt, b"all are out\n");
-        return;
+fn say_next(rt: &impl Print, next: Option<usize>) {
+    match next {
+        Some(label) => {
+            let _ = println!(rt; "next is {label}");
+        }
+        None => say(rt, b"all are out\n"),
     }
-    let _ = println!(rt; "next is {label}");
 }
 
 // One line, put to the log and answered; how many steps the log has then. What is no entry, or finds the log full, is not put to it.
@@ -58,11 +56,10 @@ fn heard(rt: &impl Print, cartons: usize, log: &mut [u8], steps: usize, line: &[
     requires { (length log.old ≡ step_limit) × (steps ≤ step_limit) × Kept cartons (take steps log.old) }
     ensures { (length log.new ≡ step_limit) × (result ≤ step_limit) × Kept cartons (take result log.new) }
 {
-    let action = entry::action(cartons, line);
-    if cartons < action {
+    let Some(action) = entry::action(cartons, line) else {
         say(rt, b"not counted: neither a label nor void\n");
         return steps;
-    }
+    };
     if LOG_LIMIT <= steps {
         say(rt, b"not counted: the log is full\n");
         return steps;
@@ -74,12 +71,11 @@ fn heard(rt: &impl Print, cartons: usize, log: &mut [u8], steps: usize, line: &[
     }
     log[steps] = action as u8;
     let after = steps + 1;
-    let label = next(cartons, &log[..after]);
-    say_next(rt, label);
+    say_next(rt, next(cartons, &log[..after]));
     after
 }
 
-// Line by line to the end of input, or to a byte that cannot be read.
+// Line by line to the end of input, or to a byte that cannot be read. The program has no heap, so a line is kept in a room with its length beside it.
 fn listen(rt: &(impl Input + Print), cartons: usize)
     requires { (1 ≤ cartons) × (cartons ≤ carton_limit) }
 {
@@ -107,10 +103,8 @@ fn listen(rt: &(impl Input + Print), cartons: usize)
 fn main(rt: HostRuntime) {
     let mut word = [0u8; WORD_ROOM];
     let n = rt.arg(1, &mut word).unwrap_or(0);
-    let cartons = entry::label(CARTON_LIMIT, &word[..n]);
-    if cartons == 0 {
-        say(&rt, b"refused=3\n");
-        return;
+    match entry::label(CARTON_LIMIT, &word[..n]) {
+        Some(cartons) => listen(&rt, cartons),
+        None => say(&rt, b"refused=3\n"),
     }
-    listen(&rt, cartons);
 }

@@ -1,13 +1,16 @@
 // A rule from the text's first place on: one run, or for a test its runs. A rule that keeps something in a run is lent a slot for each place; any other gets
 // none, and pays for none.
-ghost use Rattle.std.specs.Prelude.{false};
+// Text, table and rows come one by one, from callers that have just made them; the struct that the evaluator goes by is made of them here, where they are known to belong together.
+ghost use Rattle.std.specs.Prelude.{false, ◌+◌, ◌≤◌};
+ghost use Rattle.meaning.specs.Limits.{text_limit};
 ghost use Rattle.meaning.specs.Lengths.{allows};
 ghost use Rattle.positions.specs.Positions.{holds};
 ghost use Rattle.runs.specs.Values.{unbound};
 ghost use Rattle.runs.specs.Found.{WalkHere, TestHere, WalkFound, TestFound, AskFound};
 
+use crate::asks::Asker;
+use crate::evaluator::Evaluator;
 use crate::values::end_of;
-use crate::{asks, evaluator};
 use grammar::ends::ENDS_ROOM;
 use positions::PositionSet;
 use slots::STEP;
@@ -20,17 +23,15 @@ fn keeps(text: &[u8], ends: &[u8; ENDS_ROOM]) -> bool {
     let mut star_end = 0;
     let mut ask_end = 0;
     let mut behind_star = 0;
-    let mut i = 0;
-    while i < text.len() {
-        let sign = text[i];
-        if sign == b'*' {
+    for (i, sign) in text.iter().enumerate() {
+        if *sign == b'*' {
             if star_end <= i {
                 star_end = end_of(ends, i);
             } else if behind_star != i {
                 return true;
             }
             behind_star = i + 1;
-        } else if sign == b'?' {
+        } else if *sign == b'?' {
             if i < star_end {
                 return true;
             }
@@ -39,7 +40,6 @@ fn keeps(text: &[u8], ends: &[u8; ENDS_ROOM]) -> bool {
             }
             ask_end = end_of(ends, i);
         }
-        i += 1;
     }
     false
 }
@@ -59,14 +59,14 @@ pub fn walk(
     ensures { WalkFound text.now 0 false rows.now (unbound domain own inner) now (holds from) (holds result) }
 {
     if keeps(text, ends) {
-        return walk_keeping(text, ends, domain, own, inner, from, now, rows);
+        walk_with::<ENDS_ROOM>(text, ends, domain, own, inner, from, now, rows)
+    } else {
+        walk_with::<0>(text, ends, domain, own, inner, from, now, rows)
     }
-    let vars = none_bound(domain, own, inner);
-    let mut none = [0u64; 0];
-    evaluator::walk(text, ends, 0, from, now, false, rows, &vars, &mut none)
 }
 
-fn walk_keeping(
+// The same with so many slots.
+fn walk_with<const SLOTS: usize>(
     text: &[u8],
     ends: &[u8; ENDS_ROOM],
     domain: usize,
@@ -76,12 +76,13 @@ fn walk_keeping(
     now: usize,
     rows: &[u64; ROWS],
 ) -> PositionSet
-    requires { WalkHere text.now ends.now 0 }
+    requires { WalkHere text.now ends.now 0 × (SLOTS ≤ text_limit + 1) }
     ensures { WalkFound text.now 0 false rows.now (unbound domain own inner) now (holds from) (holds result) }
 {
     let vars = none_bound(domain, own, inner);
-    let mut slots = [0u64; ENDS_ROOM];
-    evaluator::walk(text, ends, 0, from, now, false, rows, &vars, &mut slots)
+    let mut slots = [0u64; SLOTS];
+    let evaluator = Evaluator { text, ends, rows };
+    evaluator.walk(0, from, now, false, &vars, &mut slots)
 }
 
 // The positions of a set where the test is true.
@@ -98,14 +99,14 @@ pub fn test(
     ensures { TestFound text.now 0 rows.now (unbound domain reading reading) now (holds among) (holds result) }
 {
     if keeps(text, ends) {
-        return test_keeping(text, ends, domain, reading, among, now, rows);
+        test_with::<ENDS_ROOM>(text, ends, domain, reading, among, now, rows)
+    } else {
+        test_with::<0>(text, ends, domain, reading, among, now, rows)
     }
-    let vars = none_bound(domain, reading, reading);
-    let mut none = [0u64; 0];
-    evaluator::test(text, ends, 0, among, now, rows, &vars, &mut none)
 }
 
-fn test_keeping(
+// The same with so many slots.
+fn test_with<const SLOTS: usize>(
     text: &[u8],
     ends: &[u8; ENDS_ROOM],
     domain: usize,
@@ -114,12 +115,13 @@ fn test_keeping(
     now: usize,
     rows: &[u64; ROWS],
 ) -> PositionSet
-    requires { TestHere text.now ends.now 0 }
+    requires { TestHere text.now ends.now 0 × (SLOTS ≤ text_limit + 1) }
     ensures { TestFound text.now 0 rows.now (unbound domain reading reading) now (holds among) (holds result) }
 {
     let vars = none_bound(domain, reading, reading);
-    let mut slots = [0u64; ENDS_ROOM];
-    evaluator::test(text, ends, 0, among, now, rows, &vars, &mut slots)
+    let mut slots = [0u64; SLOTS];
+    let evaluator = Evaluator { text, ends, rows };
+    evaluator.test(0, among, now, &vars, &mut slots)
 }
 
 // The actions that the walk asks for at the end, from some position of a set, by the step signs that may have so many steps behind them.
@@ -138,34 +140,36 @@ pub fn asks(
     ensures { AskFound (allows follow.now left) text.now 0 rows.now (unbound domain 0 reading) end (holds from) result }
 {
     if keeps(text, ends) {
-        return asks_keeping(text, ends, domain, reading, from, end, rows, follow, left);
+        asks_with::<ENDS_ROOM>(text, ends, domain, reading, from, end, rows, follow, left)
+    } else {
+        asks_with::<0>(text, ends, domain, reading, from, end, rows, follow, left)
     }
-    let vars = none_bound(domain, STEP, reading);
-    let mut none = [0u64; 0];
-    let pass = asks::onward(
-        text, ends, 0, from, end, rows, &vars, follow, left, &mut none,
-    );
-    pass.asked
 }
 
-fn asks_keeping(
-    text: &[u8],
-    ends: &[u8; ENDS_ROOM],
+// The same with so many slots.
+fn asks_with<'a, const SLOTS: usize>(
+    text: &'a [u8],
+    ends: &'a [u8; ENDS_ROOM],
     domain: usize,
     reading: usize,
     from: PositionSet,
     end: usize,
-    rows: &[u64; ROWS],
-    follow: &[u8; ENDS_ROOM],
+    rows: &'a [u64; ROWS],
+    follow: &'a [u8; ENDS_ROOM],
     left: usize,
 ) -> u64
-    requires { WalkHere text.now ends.now 0 }
+    requires { WalkHere text.now ends.now 0 × (SLOTS ≤ text_limit + 1) }
     ensures { AskFound (allows follow.now left) text.now 0 rows.now (unbound domain 0 reading) end (holds from) result }
 {
     let vars = none_bound(domain, STEP, reading);
-    let mut slots = [0u64; ENDS_ROOM];
-    let pass = asks::onward(
-        text, ends, 0, from, end, rows, &vars, follow, left, &mut slots,
-    );
+    let mut slots = [0u64; SLOTS];
+    let evaluator = Evaluator { text, ends, rows };
+    let asker = Asker {
+        evaluator,
+        end,
+        follow,
+        left,
+    };
+    let pass = asker.onward(0, from, &vars, &mut slots);
     pass.asked
 }

@@ -2,23 +2,20 @@
 ghost use Rattle.std.specs.Prelude.{◌≡◌, ◌⊎◌, true, false, ◌≤◌, ◌<◌, length, get_or};
 ghost use Rattle.grammar.specs.Standing.{Ends};
 ghost use Rattle.runs.specs.Values.{domain_in, BinderHere, Clean, Passed, Turns};
+ghost use Rattle.steps.specs.Values.{listed};
 
 use grammar::ends::ENDS_ROOM;
-use steps::letters::VARS;
-
-const DOMAIN: usize = 4;
-
-pub(crate) fn wide(b: u8) -> usize
-    ensures { (result ≡ b) × (result < 256) }
-{
-    b as usize
-}
+use steps::letters::Values;
 
 // Where the rule at a place ends, if the table has it; else no further on.
 pub(crate) fn end_of(ends: &[u8], at: usize) -> usize
     ensures { (result ≤ at) ⊎ (result ≡ get_or ends.now at 0) }
 {
-    if at < ends.len() { wide(ends[at]) } else { 0 }
+    if at < ends.len() {
+        usize::from(ends[at])
+    } else {
+        0
+    }
 }
 
 // One of the two binders.
@@ -56,6 +53,7 @@ fn stands(text: &[u8], ends: &[u8], name: u8, from: usize, to: usize) -> bool
     requires { to ≤ length text.now }
     ensures { result ≡ false → Clean text.now ends.now name to from }
 {
+    // a `while`, since it does not count: a part that binds the variable anew is leapt over
     let mut i = from;
     while i < to {
         if text[i] == name {
@@ -76,12 +74,12 @@ pub(crate) fn turns(
     ends: &[u8; ENDS_ROOM],
     at: usize,
     end: usize,
-    vars: &[usize; VARS],
+    vars: &Values,
 ) -> usize
     requires { BinderHere text.now at end × Ends text.now ends.now }
-    ensures { Turns text.now at (domain_in vars.now) result }
+    ensures { Turns text.now at (domain_in (listed vars.now)) result }
 {
-    let domain = vars[DOMAIN];
+    let domain = vars.domain;
     if domain < 2 {
         return domain;
     }

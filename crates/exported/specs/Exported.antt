@@ -1,13 +1,9 @@
--- What the exported functions are asked of, where it comes in loose numbers, and what they promise where an answer's enum is a lent slot.
+-- What the exported functions are asked of, where it comes in loose numbers, and what they promise where an answer is a number with a lent slot beside it.
 use Rattle.std.specs.Prelude.{◌≡◌, Bool, true, false, List, ℕ}
 use Rattle.std.proofs.Math.Option.{Option, none, some}
 use Rattle.theory.specs.Subject.{Subject, setting_of, subject_of}
-use Rattle.theory.specs.declared.Counts.{Counts}
 
--- the counts and what is asked of, from the loose numbers of an exported call
-abbrev pub counted : ℕ → ℕ → ℕ → Counts
-counted fluents actions domain = record { fluents = fluents; actions = actions; domain = domain }
-
+-- what is asked of, from the loose numbers of an exported call
 abbrev pub asked : ℕ → ℕ → ℕ → ℕ → ℕ → List ℕ → List ℕ → Subject
 asked fluents actions domain start reading masks log = subject_of (setting_of fluents actions domain start reading) masks log
 

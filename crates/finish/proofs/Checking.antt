@@ -1,4 +1,6 @@
 -- The checks of the call, one after the other: which row gives the number, and what an acceptance leaves. Knows the rows of the list, one line for each.
+use Rattle.std.specs.Prelude.{Result}
+use Rattle.std.specs.Prelude.{Ok, Err}
 use mathlib.Core.Path.{◌≡◌, refl, subst}
 use mathlib.Core.Logic.{inl, inr}
 use mathlib.Core.Bool.{true, false}
@@ -10,7 +12,9 @@ use Rattle.laws.proofs.Truth.{no_truth}
 use Rattle.meaning.specs.Limits.{text_limit, more_limit}
 use Rattle.meaning.specs.Rule.{Walk, Rule, of_test, of_walk, job_kind, Opens, backward, backward_in}
 use Rattle.meaning.specs.Finish.{First, None}
-use Rattle.meaning.specs.Refusal.{Row, Accepted, BadMore, TooShort}
+use Rattle.refusal.specs.declared.Refusal.{Refusal}
+use Rattle.refusal.specs.Given.{number_given, value_given}
+use Rattle.meaning.specs.Refusal.{Row, Accepted, BadMore, TooShort, no_count}
 use Rattle.meaning.specs.Refusal.{Refused as RefusedBy}
 use Rattle.meaning.proofs.Finish.{first_not_none}
 use Rattle.meaning.proofs.Reading.{unique_reading}
@@ -19,16 +23,12 @@ use Rattle.theory.specs.Subject.{Subject, counts_of, world_of}
 use Rattle.theory.specs.declared.Counts.{Counts}
 use Rattle.theory.specs.Rows.{world_rows}
 use Rattle.theory.specs.Check.{Settled}
-use Rattle.theory.specs.declared.Check.{Check}
-use Rattle.theory.specs.declared.Check.TheVariants.{Sound, Refused as Faulty}
 use Rattle.theory.proofs.Reading.{checked}
 use Rattle.rule.specs.Outcome.{With, Spelled, text_rows, rule_rows}
 use Rattle.rule.proofs.Outcomes.{accepted_known}
 use Rattle.finish.specs.Sound.{Logged, JobIs, Wanted}
-use Rattle.finish.specs.Answer.{number_given, count_given, FinishAnswered}
+use Rattle.finish.specs.Answer.{FinishAnswered}
 use Rattle.finish.specs.Found.{Sought, SoughtTold}
-use Rattle.finish.specs.declared.FinishAnswer.{FinishAnswer}
-use Rattle.finish.specs.declared.FinishAnswer.TheVariants.{Refused, Written}
 use Rattle.finish.specs.Next.{next_rows}
 use Rattle.finish.specs.Rows.{NoFinish, room_rows, check_rows, search_rows, finish_rows}
 
@@ -67,9 +67,9 @@ module _ (s : Subject) (job : List ℕ) where
     pub job_accepted : Accepted (rule_rows true job_kind job (counts_of s)) → Accepted (next_rows s job)
     job_accepted sound = accepted_both (world_rows s) Job-rows world (not_rest sound)
 
-    pub job_settled : (a : Check) → Settled (rule_rows true job_kind job (counts_of s)) a → Settled (next_rows s job) a
-    job_settled Sound sound = job_accepted sound
-    job_settled (Faulty r) refused = job_refused refused
+    pub job_settled : (a : Result Unit Refusal) → Settled (rule_rows true job_kind job (counts_of s)) a → Settled (next_rows s job) a
+    job_settled (Ok u) sound = job_accepted sound
+    job_settled (Err r) refused = job_refused refused
 
   -- 3, 4, 5
   pub world_refused : {N : ℕ} → RefusedBy (world_rows s) N → RefusedBy (next_rows s job) N
@@ -141,22 +141,22 @@ module _ (s : Subject) (job : List ℕ) (more room : ℕ) where
 
 -- what the search answers is what the call does
 pub sought_answered :
-    (s : Subject) (job : List ℕ) (more : ℕ) (before after : List ℕ) (answer : FinishAnswer)
+    (s : Subject) (job : List ℕ) (more : ℕ) (before after : List ℕ) (answer : Result ℕ Refusal)
     → Accepted (check_rows s job more (length before)) → SoughtTold s job more before after answer
-    → FinishAnswered s job more before (number_given answer) (count_given answer) after
+    → FinishAnswered s job more before (number_given answer) (value_given no_count answer) after
 sought_answered s job more before after answer passed told = go answer (told.each j.walk (job_is j))
   where
     j : Job job
     j = job_there s job more (length before) passed
 
-    go : (a : FinishAnswer) → Sought a (world_of s) j.walk more before after → FinishAnswered s job more before (number_given a) (count_given a) after
-    go (Refused r) f =
+    go : (a : Result ℕ Refusal) → Sought a (world_of s) j.walk more before after → FinishAnswered s job more before (number_given a) (value_given no_count a) after
+    go (Err r) f =
         inl
         (record {
           refused = rw f.0 (none_refused s job more (length before) passed j.walk j.spells f.1);
           blank = (refl, f.2);
         })
-    go (Written n) f =
+    go (Ok n) f =
         inr
         (record {
           none = refl;

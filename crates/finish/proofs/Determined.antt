@@ -1,4 +1,5 @@
 -- Any two outcomes that the contracts allow are equal: the answer, and what the lent output holds. And where the numbers of the call's list fall.
+use Rattle.std.specs.Prelude.{Result}
 use mathlib.Core.Path.{◌≡◌, refl, sym, ap, subst, ◌∙◌}
 use mathlib.Core.List.{List, [], ◌∷◌, ◌++◌}
 use Prim.Native.Nat.{ℕ}
@@ -8,29 +9,19 @@ use Rattle.laws.proofs.On.{same_bits}
 use Rattle.laws.proofs.Truth.{same_truth}
 use Rattle.meaning.specs.Theory.{World}
 use Rattle.meaning.specs.Rule.{Walk, of_walk, job_kind, Opens}
-use Rattle.meaning.specs.Refusal.{falls, Accepted}
+use Rattle.meaning.specs.Refusal.{falls, Accepted, no_count}
 use Rattle.meaning.proofs.Reading.{unique_reading}
 use Rattle.meaning.proofs.Finish.{first_unique}
 use Rattle.meaning.proofs.Refusal.{answered_determined}
 use Rattle.theory.specs.Subject.{Subject, world_of}
-use Rattle.refusal.proofs.Numbers.{one_number, some_number}
-use Rattle.finish.specs.Answer.{number_given, count_given, Finished, FinishAnswered}
+use Rattle.refusal.specs.declared.Refusal.{Refusal}
+use Rattle.refusal.specs.Given.{number_given, value_given}
+use Rattle.refusal.proofs.Given.{same_given}
+use Rattle.finish.specs.Answer.{Finished, FinishAnswered}
 use Rattle.finish.specs.Rows.{check_rows, finish_rows}
-use Rattle.finish.specs.Next
-use Rattle.finish.specs.Next.{MayCome, actions_given, next_rows, NextAnswered}
-use Rattle.finish.specs.declared.NextAnswer.{NextAnswer}
-use Rattle.finish.specs.declared.NextAnswer.TheVariants.{Refused as Declined, Actions}
+use Rattle.finish.specs.Next.{MayCome, no_actions, next_rows, NextAnswered}
 use Rattle.finish.specs.Found.{SoughtTold}
-use Rattle.finish.specs.declared.FinishAnswer.{FinishAnswer}
-use Rattle.finish.specs.declared.FinishAnswer.TheVariants.{Refused, Written}
 use Rattle.finish.proofs.Checking.{sought_answered}
-
--- an answer is its number and its count
-same_answer : (a b : FinishAnswer) → number_given a ≡ number_given b → count_given a ≡ count_given b → a ≡ b
-same_answer (Refused r) (Refused q) n s = ap Refused (one_number r q n)
-same_answer (Refused r) (Written t) n s = absurd (some_number r n)
-same_answer (Written t) (Refused r) n s = absurd (some_number r (sym n))
-same_answer (Written t) (Written u) n s = ap Written s
 
 -- the text of a job is that of one walk
 same_job : {job : List ℕ} {x y : Walk} → Opens job_kind job (of_walk x) [] → Opens job_kind job (of_walk y) [] → x ≡ y
@@ -46,21 +37,21 @@ same_ending w job more before after after' n n' f g =
     )
 
 pub finish_determined :
-    (s : Subject) (job : List ℕ) (more : ℕ) (before after after' : List ℕ) (a b : FinishAnswer)
-    → FinishAnswered s job more before (number_given a) (count_given a) after
-    → FinishAnswered s job more before (number_given b) (count_given b) after'
+    (s : Subject) (job : List ℕ) (more : ℕ) (before after after' : List ℕ) (a b : Result ℕ Refusal)
+    → FinishAnswered s job more before (number_given a) (value_given no_count a) after
+    → FinishAnswered s job more before (number_given b) (value_given no_count b) after'
     → (a ≡ b) × (after ≡ after')
 finish_determined s job more before after after' a b x y =
     answered_determined x y
-    (λ n f g. (same_answer a b n (f.0 ∙ sym g.0), f.1 ∙ sym g.1))
+    (λ n f g. (same_given no_count a b n (f.0 ∙ sym g.0), f.1 ∙ sym g.1))
     (λ n f g.
-    let same = subst (λ (z : Walk). Finished (world_of s) z more before after' (count_given b)) (sym (same_job f.spells g.spells)) g.finished in
-    let e = same_ending (world_of s) f.walk more before after after' (count_given a) (count_given b) f.finished same in
-    (same_answer a b n e.0, e.1))
+    let same = subst (λ (z : Walk). Finished (world_of s) z more before after' (value_given no_count b)) (sym (same_job f.spells g.spells)) g.finished in
+    let e = same_ending (world_of s) f.walk more before after after' (value_given no_count a) (value_given no_count b) f.finished same in
+    (same_given no_count a b n e.0, e.1))
 
 -- the search behind the checks answers what the call does, so it is determined as well
 pub seek_determined :
-    (s : Subject) (job : List ℕ) (more : ℕ) (before after after' : List ℕ) (a b : FinishAnswer)
+    (s : Subject) (job : List ℕ) (more : ℕ) (before after after' : List ℕ) (a b : Result ℕ Refusal)
     → Accepted (check_rows s job more (length before))
     → SoughtTold s job more before after a → SoughtTold s job more before after' b → (a ≡ b) × (after ≡ after')
 seek_determined s job more before after after' a b passed x y =
@@ -70,25 +61,19 @@ seek_determined s job more before after after' a b passed x y =
 pub finish_falls : (s : Subject) (job : List ℕ) (more room : ℕ) → falls (finish_rows s job more room) ≡ (13, 12) ∷ (12, 11) ∷ []
 finish_falls s job more room = refl
 
--- which actions may come next: an answer is its number and its actions
-same_next : (a b : NextAnswer) → Next.number_given a ≡ Next.number_given b → actions_given a ≡ actions_given b → a ≡ b
-same_next (Declined r) (Declined q) n s = ap Declined (one_number r q n)
-same_next (Declined r) (Actions t) n s = absurd (some_number r n)
-same_next (Actions t) (Declined r) n s = absurd (some_number r (sym n))
-same_next (Actions t) (Actions u) n s = ap Actions s
-
+-- which actions may come next
 same_actions : (w : World) (x : Walk) (a b : ℕ) → MayCome w x a → MayCome w x b → a ≡ b
 same_actions w x a b f g = same_bits a b (λ i. same_truth (on a i) (on b i) (λ h. (g i).1 ((f i).0 h)) (λ h. (f i).1 ((g i).0 h)))
 
 pub next_determined :
-    (s : Subject) (job : List ℕ) (a b : NextAnswer)
-    → NextAnswered s job (Next.number_given a) (actions_given a) → NextAnswered s job (Next.number_given b) (actions_given b) → a ≡ b
+    (s : Subject) (job : List ℕ) (a b : Result ℕ Refusal)
+    → NextAnswered s job (number_given a) (value_given no_actions a) → NextAnswered s job (number_given b) (value_given no_actions b) → a ≡ b
 next_determined s job a b x y =
     answered_determined x y
-    (λ n f g. same_next a b n (f ∙ sym g))
+    (λ n f g. same_given no_actions a b n (f ∙ sym g))
     (λ n f g.
-    let same = subst (λ (z : Walk). MayCome (world_of s) z (actions_given b)) (sym (same_job f.spells g.spells)) g.told in
-    same_next a b n (same_actions (world_of s) f.walk (actions_given a) (actions_given b) f.told same))
+    let same = subst (λ (z : Walk). MayCome (world_of s) z (value_given no_actions b)) (sym (same_job f.spells g.spells)) g.told in
+    same_given no_actions a b n (same_actions (world_of s) f.walk (value_given no_actions a) (value_given no_actions b) f.told same))
 
 pub next_rises : (s : Subject) (job : List ℕ) → falls (next_rows s job) ≡ []
 next_rises s job = refl

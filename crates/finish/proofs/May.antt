@@ -1,4 +1,5 @@
 -- Which truth a test may have, sign by sign: all the mathematics of `may_be`. Knows the text by the rules that stand in it; no code.
+use Rattle.std.specs.Prelude.{Some}
 use mathlib.Core.Path.{◌≡◌, refl, sym, subst, ◌∙◌}
 use mathlib.Core.Logic.{inl, inr}
 use mathlib.Core.Bool.{Bool, true, false, not, cond, ◌&&◌, ◌||◌, true≢false}
@@ -13,7 +14,6 @@ use Rattle.meaning.specs.Theory.{World, bind, state_before}
 use Rattle.meaning.specs.Rule.{Test, of_test}
 use Rattle.meaning.specs.Leads.{Holds}
 use Rattle.meaning.specs.Lengths.{Turning}
-use Rattle.spelling.specs.declared.Digits.TheVariants.{Number}
 use Rattle.spelling.specs.Scan.{NumberAt}
 use Rattle.grammar.proofs.Numbers.{number_tens, number_ones}
 use Rattle.grammar.specs.Standing.{Ends}
@@ -22,7 +22,7 @@ use Rattle.runs.proofs.Calls.{end_stands}
 use Rattle.finish.specs.Lengths.{Lacks, Is, MayTold}
 
 -- the number at a place is one only
-pub named_lacks : (text : List ℕ) (at fluents i : ℕ) → NumberAt text at (Number i) → i < fluent_limit → on fluents i ≡ false → Lacks text at fluents
+pub named_lacks : (text : List ℕ) (at fluents i : ℕ) → NumberAt text at (Some i) → i < fluent_limit → on fluents i ≡ false → Lacks text at fluents
 named_lacks text at fluents i h low off j k =
     let same : i ≡ j = omega (arith, number_tens text at i h, number_tens text at j k, number_ones text at i h, number_ones text at j k) in
     (omega arith, subst (λ (n : ℕ). on fluents n ≡ false) same off)

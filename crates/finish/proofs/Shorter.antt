@@ -1,4 +1,5 @@
 -- The search over the lengths, from 0 up: "shorter before longer". All the mathematics of its loop; knows no code.
+use Rattle.std.specs.Prelude.{Some, None}
 use mathlib.Core.Path.{◌≡◌, sym, ap, subst, ◌∙◌}
 use mathlib.Core.Bool.{true, false}
 use mathlib.Core.List.{List}
@@ -18,7 +19,6 @@ use Rattle.finish.specs.Search.{FirstOf, NoneOf}
 use Rattle.finish.specs.Sound.{JobIs, Node, Ready, Shown}
 use Rattle.finish.specs.Lengths.{FollowTold, Guided}
 use Rattle.finish.specs.Found.{LengthTold, FinishTold}
-use Rattle.finish.specs.declared.search.Found.TheVariants.{At, Nothing}
 use Rattle.finish.proofs.Lengths.{first_of_all, none_of_all}
 
 module _ (s : Setting) (masks job : List ℕ) where
@@ -42,7 +42,7 @@ module _ (s : Setting) (masks job : List ℕ) where
 
   -- one of k actions, and none of fewer
   pub at_told : (trail now last : List ℕ) (n more k : ℕ) → n ≤ length trail → k ≤ more → n + k ≤ log_limit → take n now ≡ take n trail
-      → Fewer (take n trail) k → LengthTold s masks job now n k last true → FinishTold s masks job trail n more last (At k)
+      → Fewer (take n trail) k → LengthTold s masks job now n k last true → FinishTold s masks job trail n more last (Some k)
   at_told trail now last n more k room short fits same fewer told =
       let full : length (take n trail) ≡ n = length-take-le n trail room in
       record {
@@ -54,7 +54,7 @@ module _ (s : Setting) (masks job : List ℕ) where
 
   -- none of any length within the bounds
   pub nothing_told : (trail last : List ℕ) (n more k : ℕ) → n ≤ length trail → min more (log_limit - n) < k → Fewer (take n trail) k
-      → FinishTold s masks job trail n more last Nothing
+      → FinishTold s masks job trail n more last None
   nothing_told trail last n more k room past fewer =
       let full : length (take n trail) ≡ n = length-take-le n trail room in
       record {

@@ -4,7 +4,7 @@ use mathlib.Core.Path.{◌≡◌, refl, sym, ap, subst, subst⁻¹, ◌∙◌}
 use mathlib.Core.Logic.{◌⊎◌, inl, inr, ◌↔◌}
 use mathlib.Core.Bool.{Bool, true, false, ◌&&◌, false≢true}
 use mathlib.Core.List.{List, [], ◌∷◌, ◌++◌}
-use Prim.Native.Nat.{ℕ, suc, ◌+◌, ◌≤◌, ◌<◌}
+use Prim.Native.Nat.{ℕ, suc, ◌+◌, ◌/◌, ◌%◌, ◌^◌, ◌≤◌, ◌<◌}
 use native.Mathlib.Decide.{ℕ_discrete}
 use native.Mathlib.Numerals.{add-one}
 use native.Mathlib.Omega.{arith}
@@ -27,20 +27,21 @@ use Rattle.tables.proofs.Toggled.{toggled_on, toggled_off}
 use Rattle.theory.specs.declared.Setting.{Setting}
 use Rattle.finish.specs.Search.{stands, Ended, FirstOf, NoneOf, Allows, Tries}
 use Rattle.finish.specs.Sound.{JobIs, Logged, Ready, Shown}
+use Rattle.standins.proofs.Words.{bit_on}
 use Rattle.runs.specs.Values.{unbound}
 use Rattle.ask.specs.Asked.{EndTold}
 use Rattle.runs.specs.Found.{Tabled}
 use Rattle.runs.proofs.Bound.{bears_none}
 use Rattle.finish.specs.Lengths.{Guided}
-use Rattle.finish.specs.Found.{MayBegin, NextTold, OneLength, LengthTold}
+use Rattle.finish.specs.Found.{NextTold, OneLength, LengthTold}
 use Rattle.finish.specs.Spared.{Spared}
 use Rattle.finish.proofs.Sound.{logged_more}
 use Rattle.finish.proofs.LeftOut.{allows_grown, next_tries}
 use Rattle.finish.proofs.Lengths.{first_empty, none_empty, NoneAfter, none_after, first_more, none_more}
 
 -- an action that is asked for and worth trying, or not both
-pub asked_on : (asked worthy a : ℕ) → on (bit_and asked worthy) a ≡ true → on asked a ≡ true
-asked_on asked worthy a h = ((and_iff (on asked a) (on worthy a)).0 (sym (on_and asked worthy a) ∙ h)).0
+pub asked_on : (asked worthy a : ℕ) → bit_and asked worthy / 2 ^ a % 2 ≡ 1 → on asked a ≡ true
+asked_on asked worthy a h = ((and_iff (on asked a) (on worthy a)).0 (sym (on_and asked worthy a) ∙ bit_on _ a h)).0
 
 neither_on : (asked worthy a : ℕ) → on (bit_and asked worthy) a ≡ false → (on asked a ≡ false) ⊎ (on worthy a ≡ false)
 neither_on asked worthy a h = go (on asked a) (on worthy a) (sym (on_and asked worthy a) ∙ h)
@@ -97,11 +98,9 @@ module _ (s : Setting) (masks job : List ℕ) where
   abbrev pub Tried : List ℕ → ℕ → ℕ → Type 0
   Tried log k asked = (x : Walk) → JobIs job x → Tries (At log) x k asked
 
-  pub tried : (log follow : List ℕ) (left k m asked : ℕ) → left ≡ suc k → Guided (subject_of s masks log) job follow left
-      → NextTold (allows follow m) (subject_of s masks log) job asked → m ≡ k → Tried log k asked
-  tried log follow left k m asked one guided told same x j =
-      next_tries (At log) x follow k asked (omega (arith, guided.few)) (guided.told.each x j)
-      (subst (λ (i : ℕ). MayBegin (allows follow i) (At log) x asked) same (told.each x j))
+  pub tried : {log follow : List ℕ} {left k asked : ℕ} → left ≡ suc k → Guided (subject_of s masks log) job follow left
+      → NextTold (allows follow k) (subject_of s masks log) job asked → Tried log k asked
+  tried {log} {follow} {k = k} {asked = asked} one guided told x j = next_tries (At log) x follow k asked (omega (arith, guided.few)) (guided.told.each x j) (told.each x j)
 
   -- an action that is left out: nothing finishes behind it, or a smaller one, gone over already, stands in for it
   pub passed_out : (log : List ℕ) (k a asked worthy : ℕ) → Tried log k asked → Spared s masks job worthy → a < s.counts.actions
@@ -197,9 +196,12 @@ module _ (s : Setting) (masks trail now : List ℕ) (n a behind state : ℕ) (ro
       toggled_off old_world a n behind (sym full) can then_state
       (subst (λ (l : List ℕ). Describes (world_of (subject_of s masks l)) rows) (grown_trail trail now n a room same) d) t
 
--- there is a place behind the log
-pub place : (actions : ℕ) (masks job ends trail now : List ℕ) (n left : ℕ) → Ready actions masks job ends trail n left → length now ≡ length trail → n < length now
-place actions masks job ends trail now n left r long = omega (arith, r.room, r.fits)
+-- the trail has all of its first n places, and one behind them
+pub whole : {actions n left : ℕ} {masks job ends trail : List ℕ} → Ready actions masks job ends trail n left → length (take n trail) ≡ n
+whole {n = n} {trail = trail} r = length-take-le n trail (omega (arith, r.room, r.fits))
+
+pub place : {actions n left : ℕ} {masks job ends trail : List ℕ} (now : List ℕ) → Ready actions masks job ends trail n left → length now ≡ length trail → n < length now
+place now r long = omega (arith, r.room, r.fits)
 
 -- what the search asks, of the trail with one action more
 pub ready_more : (actions : ℕ) (masks job ends trail now : List ℕ) (n left k a : ℕ) → left ≡ suc k → Ready actions masks job ends trail n left

@@ -1,25 +1,12 @@
 -- Document 01, "Finish": what the call answers, case by case, and when an answer is right. "Its bytes go to the front of the lent output, the rest keeps its
 -- content; the count is returned."
 use Rattle.std.specs.Prelude.{◌≡◌, List, [], ◌++◌, ℕ, length, drop}
-use Rattle.refusal.specs.Number.{number_of}
 use Rattle.meaning.specs.Theory.{World}
 use Rattle.meaning.specs.Rule.{Walk, of_walk, job_kind, Opens}
 use Rattle.meaning.specs.Finish.{First}
 use Rattle.meaning.specs.Refusal.{Answered, no_count}
 use Rattle.theory.specs.Subject.{Subject, world_of}
 use Rattle.finish.specs.Rows.{finish_rows}
-use Rattle.finish.specs.declared.FinishAnswer.{FinishAnswer}
-use Rattle.finish.specs.declared.FinishAnswer.TheVariants.{Refused, Written}
-
--- the refusal's number, 0 for none
-abbrev pub number_given : FinishAnswer → ℕ
-number_given (Refused r) = number_of r
-number_given (Written n) = 0
-
--- "A refusal has .. count 0"
-abbrev pub count_given : FinishAnswer → ℕ
-count_given (Refused r) = no_count
-count_given (Written n) = n
 
 -- the first finishing sequence of this job is what was written
 pub record Finished (w : World) (job : Walk) (more : ℕ) (before after : List ℕ) (count : ℕ) : Type 0 where

@@ -1,22 +1,21 @@
 -- What the functions of the search answer. An answer is right for the walk that the job's text spells.
-use Rattle.std.specs.Prelude.{◌≡◌, ◌↔◌, Bool, true, false, List, ℕ, ◌+◌, ◌≤◌, ◌<◌, length, drop, take}
+use Rattle.std.specs.Prelude.{◌≡◌, ◌↔◌, Bool, true, false, List, ℕ, ◌+◌, ◌≤◌, ◌<◌, length, drop, take, Option, Result}
+use Rattle.std.specs.Prelude.{Some, None, Ok, Err}
+use Rattle.refusal.specs.declared.Refusal.{Refusal}
 use Rattle.refusal.specs.Number.{number_of}
 use Rattle.laws.specs.Bit.{on}
 use Rattle.meaning.specs.Limits.{log_limit}
 use Rattle.meaning.specs.Theory.{World, Possible, as_job}
 use Rattle.meaning.specs.Rule.{Walk}
 use Rattle.meaning.specs.Asks.{AsksAt}
-use Rattle.meaning.specs.Finish.{First, None}
+use Rattle.meaning.specs.Finish.{First}
+use Rattle.meaning.specs.Finish.{None as NoneOfAll}
 use Rattle.theory.specs.Subject.{Subject, counts_of, subject_of, table_masks, world_of}
 use Rattle.tables.specs.Tables.{Describes}
 use Rattle.theory.specs.declared.Setting.{Setting}
 use Rattle.finish.specs.Search.{stands, FirstOf, NoneOf}
 use Rattle.finish.specs.Sound.{JobIs}
 use Rattle.finish.specs.Answer.{Finished}
-use Rattle.finish.specs.declared.FinishAnswer.{FinishAnswer}
-use Rattle.finish.specs.declared.FinishAnswer.TheVariants.{Refused, Written}
-use Rattle.finish.specs.declared.search.Found.{Found}
-use Rattle.finish.specs.declared.search.Found.TheVariants.{At, Nothing}
 
 -- the actions that are possible in a state, bit a for action a
 pub record Doable (actions : ℕ) (masks : List ℕ) (state asked : ℕ) : Type 0 where
@@ -46,23 +45,23 @@ abbrev pub RowsKept : World → Bool → List ℕ → Type 0
 RowsKept w answer rows = answer ≡ false → Describes w rows
 
 -- and of all lengths up to more
-abbrev pub AllLengths : Found → ℕ → World → Walk → List ℕ → Type 0
-AllLengths (At k) more w x behind = First w x more (take k behind)
-AllLengths Nothing more w x behind = None w x more
+abbrev pub AllLengths : Option ℕ → ℕ → World → Walk → List ℕ → Type 0
+AllLengths (Some k) more w x behind = First w x more (take k behind)
+AllLengths None more w x behind = NoneOfAll w x more
 
 -- the two bounds on the length
-abbrev pub Within : Found → ℕ → ℕ → Type 0
-Within (At k) n more = (k ≤ more) × (n + k ≤ log_limit)
-Within Nothing n more = Unit {0}
+abbrev pub Within : Option ℕ → ℕ → ℕ → Type 0
+Within (Some k) n more = (k ≤ more) × (n + k ≤ log_limit)
+Within None n more = Unit {0}
 
-pub record FinishTold (s : Setting) (masks job trail : List ℕ) (n more : ℕ) (last : List ℕ) (answer : Found) : Type 0 where
+pub record FinishTold (s : Setting) (masks job trail : List ℕ) (n more : ℕ) (last : List ℕ) (answer : Option ℕ) : Type 0 where
   pub fits : Within answer n more
   pub each : (x : Walk) → JobIs job x → AllLengths answer more (world_of (subject_of s masks (take n trail))) x (drop n last)
 
 -- what the search alone answers, once nothing but 11 is left to refuse
-abbrev pub Sought : FinishAnswer → World → Walk → ℕ → List ℕ → List ℕ → Type 0
-Sought (Refused r) w job more before after = (number_of r ≡ 11) × None w job more × (after ≡ before)
-Sought (Written n) w job more before after = Finished w job more before after n
+abbrev pub Sought : Result ℕ Refusal → World → Walk → ℕ → List ℕ → List ℕ → Type 0
+Sought (Err r) w job more before after = (number_of r ≡ 11) × NoneOfAll w job more × (after ≡ before)
+Sought (Ok n) w job more before after = Finished w job more before after n
 
-pub record SoughtTold (s : Subject) (job : List ℕ) (more : ℕ) (before after : List ℕ) (answer : FinishAnswer) : Type 0 where
+pub record SoughtTold (s : Subject) (job : List ℕ) (more : ℕ) (before after : List ℕ) (answer : Result ℕ Refusal) : Type 0 where
   pub each : (x : Walk) → JobIs job x → Sought answer (world_of s) x more before after

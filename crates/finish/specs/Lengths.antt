@@ -1,5 +1,5 @@
 -- What the functions answer that find how many steps a job can still take behind each of its step signs. Answers are right for the rule that the text spells.
-use Rattle.std.specs.Prelude.{◌≡◌, ◌⊎◌, Bool, true, false, List, ℕ, ◌+◌, ◌≤◌, ◌<◌, length, get_or, replicate}
+use Rattle.std.specs.Prelude.{◌≡◌, ◌⊎◌, Bool, true, false, List, ℕ, ◌+◌, ◌≤◌, ◌<◌, length, get_or, replicate, Some}
 use Rattle.laws.specs.Bit.{on}
 use Rattle.meaning.specs.Limits.{fluent_limit, more_limit, text_limit}
 use Rattle.meaning.specs.Theory.{World, state_before}
@@ -7,7 +7,6 @@ use Rattle.meaning.specs.Rule.{Walk, Test, act, undo, next, prev, seq, alt, star
 use Rattle.meaning.specs.Leads.{Holds}
 use Rattle.meaning.specs.Lengths.{Turning, Measured, Grown}
 use Rattle.theory.specs.Subject.{Subject, world_of}
-use Rattle.spelling.specs.declared.Digits.TheVariants.{Number}
 use Rattle.spelling.specs.Scan.{NumberAt}
 use Rattle.grammar.specs.Standing.{Stands}
 use Rattle.runs.specs.Found.{WalkHere}
@@ -16,7 +15,7 @@ use Rattle.finish.specs.Sound.{JobIs, Node}
 
 -- the fluent that is named at a place is not one of these
 abbrev pub Lacks : List ℕ → ℕ → ℕ → Type 0
-Lacks text at fluents = (i : ℕ) → NumberAt text at (Number i) → (i < fluent_limit) × (on fluents i ≡ false)
+Lacks text at fluents = (i : ℕ) → NumberAt text at (Some i) → (i < fluent_limit) × (on fluents i ≡ false)
 
 -- the test has this truth
 abbrev pub Is : Bool → Type 0 → Type 0

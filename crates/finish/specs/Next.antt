@@ -1,6 +1,5 @@
 -- Which actions may come next: those that the job waits for at the log's end and that are possible there. What the call answers, and when an answer is right.
 use Rattle.std.specs.Prelude.{◌≡◌, ◌↔◌, true, List, [], ◌++◌, ℕ, ◌<◌, length}
-use Rattle.refusal.specs.Number.{number_of}
 use Rattle.laws.specs.Bit.{on}
 use Rattle.meaning.specs.Theory.{World, Possible, as_job}
 use Rattle.meaning.specs.Rule.{Walk, of_walk, job_kind, Opens}
@@ -10,25 +9,15 @@ use Rattle.theory.specs.Subject.{Subject, counts_of, world_of}
 use Rattle.theory.specs.Rows.{world_rows}
 use Rattle.rule.specs.Outcome.{text_rows}
 use Rattle.finish.specs.Search.{stands}
-use Rattle.finish.specs.declared.NextAnswer.{NextAnswer}
-use Rattle.finish.specs.declared.NextAnswer.TheVariants.{Refused, Actions}
 
 -- bit a is on exactly where a is an action of the theory, possible at the log's end, and asked for there by the job, with its own tests read as a job's are
 abbrev pub MayCome : World → Walk → ℕ → Type 0
 MayCome w x actions =
     (a : ℕ) → (on actions a ≡ true) ↔ ((a < w.actions) × Possible (w.masks a) (stands w) × Asks (as_job w) x 0 (length w.log) a)
 
--- the refusal's number, 0 for none, and the actions, none on a refusal
-abbrev pub number_given : NextAnswer → ℕ
-number_given (Refused r) = number_of r
-number_given (Actions a) = 0
-
+-- a refusal has no actions
 abbrev pub no_actions : ℕ
 no_actions = 0
-
-abbrev pub actions_given : NextAnswer → ℕ
-actions_given (Refused r) = no_actions
-actions_given (Actions a) = a
 
 -- the rows of a world, and those of a job
 abbrev pub next_rows : Subject → List ℕ → List {1} Row

@@ -1,12 +1,11 @@
 // One call and what it answers, written as a line.
-ghost use Rattle.std.specs.Prelude.{◌≤◌, length};
-
-use finish::{FinishAnswer, finish};
+use finish::finish;
+use refusal::Refusal;
 use std::io;
 use theory::rows::{PLAIN_STRIDE, plain_row};
-use theory::{ACTION_LIMIT, Counts, STRIDE, Setting};
+use theory::{ACTION_LIMIT, Asked, STRIDE, Setting};
 
-// Room for the masks of as many actions as there may be.
+// Room for the masks of as many actions as there may be: fixed, as a program without a heap has it.
 const TABLE_ROOM: usize = STRIDE * ACTION_LIMIT;
 
 // A number below a hundred, in two digits.
@@ -15,101 +14,68 @@ fn two(rt: &impl Print, n: u8) -> io::Result<()> {
     rt.write_all(&digits)
 }
 
-// The first n of these actions, two digits each.
-fn actions_of(rt: &impl Print, bytes: &[u8], n: usize) -> io::Result<()> {
-    let mut i = 0;
-    while i < bytes.len() {
-        if n <= i {
-            return Ok(());
-        }
-        two(rt, bytes[i])?;
-        i += 1;
+// These actions, two digits each.
+fn actions_of(rt: &impl Print, actions: &[u8]) -> io::Result<()> {
+    for action in actions {
+        two(rt, *action)?;
     }
     Ok(())
 }
 
 // A refusal's number, or the sequence; and then whatever of the output was not written.
-fn answer_of(rt: &impl Print, answer: FinishAnswer, out: &[u8]) -> io::Result<()> {
+fn answer_of(rt: &impl Print, answer: Result<usize, Refusal>, out: &[u8]) -> io::Result<()> {
     match answer {
-        FinishAnswer::Refused(r) => {
+        Err(why) => {
             rt.write_all(b"refused ")?;
-            two(rt, refusal::number(r))?;
+            two(rt, u8::from(why))?;
             rt.write_all(b" [")?;
             rt.write_all(out)?;
         }
-        FinishAnswer::Written(n) => {
+        Ok(count) => {
+            let (sequence, rest) = out.split_at(count.min(out.len()));
             rt.write_all(b"\"")?;
-            actions_of(rt, out, n)?;
+            actions_of(rt, sequence)?;
             rt.write_all(b"\" [")?;
-            if n <= out.len() {
-                rt.write_all(&out[n..])?;
-            }
+            rt.write_all(rest)?;
         }
     }
     rt.write_all(b"]\n")
 }
 
+// A number that is written only where it is not 0, behind its name.
+fn named(rt: &impl Print, name: &[u8], n: usize) -> io::Result<()> {
+    if 0 < n && n < 100 {
+        rt.write_all(name)?;
+        two(rt, n as u8)?;
+    }
+    Ok(())
+}
+
 // The call, and its answer as a line, where a variable has so many values, 0 for a call without variables, and tests inside a walk are read so, 0 for `step`.
-fn call(
-    rt: &impl Print,
-    counts: Counts,
-    start: u32,
-    reading: usize,
-    masks: &[u32],
-    log: &[u8],
-    job: &[u8],
-    more: usize,
-    out: &mut [u8],
-) -> io::Result<()> {
-    let domain = counts.domain;
+fn call(rt: &impl Print, asked: Asked, job: &[u8], more: usize, out: &mut [u8]) -> io::Result<()> {
     rt.write_all(b"log=")?;
-    actions_of(rt, log, log.len())?;
+    actions_of(rt, asked.log)?;
     rt.write_all(b" job=")?;
     rt.write_all(job)?;
-    if 0 < domain {
-        if domain < 100 {
-            rt.write_all(b" domain=")?;
-            two(rt, domain as u8)?;
-        }
-    }
-    if 0 < reading {
-        if reading < 100 {
-            rt.write_all(b" reading=")?;
-            two(rt, reading as u8)?;
-        }
-    }
+    named(rt, b" domain=", asked.setting.counts.domain)?;
+    named(rt, b" reading=", asked.setting.reading)?;
     rt.write_all(b": ")?;
-    let s = Setting {
-        counts,
-        start,
-        reading,
-    };
-    let answer = finish(s, masks, log, job, more, out);
+    let answer = finish(asked, job, more, out);
     answer_of(rt, answer, out)
 }
 
-// Document 01's four masks an action as the table of a call: how many masks that has, 0 where there is no room for them.
-fn widen(four: &[u32], table: &mut [u32]) -> usize
-    ensures { result ≤ length table.old }
-{
+// Document 01's four masks an action as the table of a call, which is empty where there is no room for them.
+fn widen<'a>(four: &[u32], table: &'a mut [u32; TABLE_ROOM]) -> &'a [u32] {
     let actions = four.len() / PLAIN_STRIDE;
     if ACTION_LIMIT < actions {
-        return 0;
+        return &[];
     }
-    if table.len() < STRIDE * actions {
-        return 0;
-    }
-    let mut a = 0;
-    while a < actions {
+    for a in 0..actions {
         let from = PLAIN_STRIDE * a;
-        let need = four[from];
-        let ban = four[from + 1];
-        let put = four[from + 2];
-        let drop = four[from + 3];
-        plain_row(table, a, need, ban, put, drop);
-        a += 1;
+        let row = &four[from..from + PLAIN_STRIDE];
+        plain_row(table, a, row[0], row[1], row[2], row[3]);
     }
-    STRIDE * actions
+    &table[..STRIDE * actions]
 }
 
 // A call whose output is this one, and whose theory has four masks an action.
@@ -125,14 +91,15 @@ pub(crate) fn run_into(
     more: usize,
     out: &mut [u8],
 ) -> io::Result<()> {
-    let counts = Counts {
-        fluents,
-        actions,
-        domain,
-    };
+    let setting = Setting::of(fluents, actions, domain, start, 0);
     let mut table = [0u32; TABLE_ROOM];
-    let n = widen(four, &mut table);
-    call(rt, counts, start, 0, &table[..n], log, job, more, out)
+    let masks = widen(four, &mut table);
+    let asked = Asked {
+        setting,
+        masks,
+        log,
+    };
+    call(rt, asked, job, more, out)
 }
 
 // The same with room for the longest sequence; without variables, and with them.
@@ -177,25 +144,16 @@ pub(crate) fn run_read(
     job: &[u8],
     more: usize,
 ) -> io::Result<()> {
-    let counts = Counts {
-        fluents,
-        actions,
-        domain: 0,
+    let setting = Setting::of(fluents, actions, 0, 0, reading);
+    let mut table = [0u32; TABLE_ROOM];
+    let masks = widen(four, &mut table);
+    let asked = Asked {
+        setting,
+        masks,
+        log,
     };
     let mut out = [b'.'; 6];
-    let mut table = [0u32; TABLE_ROOM];
-    let n = widen(four, &mut table);
-    call(
-        rt,
-        counts,
-        0,
-        reading,
-        &table[..n],
-        log,
-        job,
-        more,
-        &mut out,
-    )
+    call(rt, asked, job, more, &mut out)
 }
 
 // A call with a table as it stands.
@@ -209,11 +167,12 @@ pub(crate) fn run_table(
     job: &[u8],
     more: usize,
 ) -> io::Result<()> {
-    let counts = Counts {
-        fluents,
-        actions,
-        domain: 0,
+    let setting = Setting::of(fluents, actions, 0, start, 0);
+    let asked = Asked {
+        setting,
+        masks,
+        log,
     };
     let mut out = [b'.'; 6];
-    call(rt, counts, start, 0, masks, log, job, more, &mut out)
+    call(rt, asked, job, more, &mut out)
 }

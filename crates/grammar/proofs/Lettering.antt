@@ -5,12 +5,11 @@ use Prim.Native.Nat.{ℕ, zero, suc, ◌+◌, ◌-◌, ◌≤◌, ◌<◌}
 use native.Mathlib.Omega.{arith}
 use borrow.Author.Tests.{eqb-true, eq-eqb}
 use lib.Dec.{eqb}
-use lib.ListN.{length, drop, get_or, length-drop}
+use lib.ListN.{length, drop, get_or}
 use Rattle.laws.proofs.Truth.{same_truth}
 use Rattle.meaning.specs.Rule.{Variable, var_v, var_w, var_x, var_y, letter, is_variable}
 use Rattle.spelling.proofs.TwoDigits.{here}
-use Rattle.grammar.specs.declared.letters.Letter.{Letter}
-use Rattle.grammar.specs.declared.letters.Letter.TheVariants.{Place, Other}
+use Rattle.std.specs.Prelude.{Option, Some, None}
 use Rattle.grammar.specs.Letters.{variables, variable_meant, place, Lettered, LetterAt}
 
 -- the letters follow one another
@@ -49,31 +48,23 @@ same_place v i h = same_truth _ _
     (λ e. eq-eqb (letter v) (letter (variable_meant i)) (omega (arith, eqb-true i (place v) e, letter_is v, letter_is (variable_meant i), place_at i h)))
 
 -- What stands at a place.
-pub no_letter_left : (bytes : List ℕ) (at : ℕ) → length bytes ≤ at → LetterAt bytes at Other
-no_letter_left bytes at h v rest e = omega (arith, ap length e, length-drop at bytes)
-
 module _ (bytes : List ℕ) (at : ℕ) (h : at < length bytes) where
-  pub letter_found : 118 ≤ get_or bytes at 0 → get_or bytes at 0 ≤ 121 → LetterAt bytes at (Place (get_or bytes at 0 - 118))
+  pub letter_found : 118 ≤ get_or bytes at 0 → get_or bytes at 0 ≤ 121 → LetterAt bytes at (Some (get_or bytes at 0 - 118))
   letter_found low high =
       let k = get_or bytes at 0 - 118 in
       let same : place (variable_meant k) ≡ k = place_at k (omega arith) in
       let byte : get_or bytes at 0 ≡ letter (variable_meant k) = omega (arith, same, letter_is (variable_meant k)) in
       (variable_meant k, sym same, here bytes at h ∙ ap (λ (b : ℕ). b ∷ drop (at + 1) bytes) byte)
 
-  pub no_letter : (118 ≤ get_or bytes at 0 → get_or bytes at 0 ≤ 121 → ⊥) → LetterAt bytes at Other
-  no_letter none v rest e =
-      let byte : get_or bytes at 0 ≡ letter v = head-eq_of_cons-eq (sym (here bytes at h) ∙ e) in
-      none (omega (arith, byte, letter_is v)) (omega (arith, byte, letter_is v, place_low v))
-
 -- where a variable's letter stands, that one is found
-pub letter_told : (bytes : List ℕ) (at : ℕ) (v : Variable) (l : Letter) → Lettered bytes at v → LetterAt bytes at l → l ≡ Place (place v)
-letter_told bytes at v (Place k) there (u, e, found) =
+pub letter_told : (bytes : List ℕ) (at : ℕ) (v : Variable) (l : Option ℕ) → Lettered bytes at v → LetterAt bytes at l → l ≡ Some (place v)
+letter_told bytes at v (Some k) there (u, e, found) =
     let same : letter u ≡ letter v = head-eq_of_cons-eq (sym found ∙ there) in
-    ap Place (e ∙ omega (arith, same, letter_is u, letter_is v))
-letter_told bytes at v Other there none = absurd (none v (drop (at + 1) bytes) there)
+    ap Some (e ∙ omega (arith, same, letter_is u, letter_is v))
+letter_told bytes at v None there none = absurd (none v (drop (at + 1) bytes) there)
 
 -- one letter stands at a place, or none
-pub letter_determined : (bytes : List ℕ) (at : ℕ) (l l' : Letter) → LetterAt bytes at l → LetterAt bytes at l' → l ≡ l'
-letter_determined bytes at (Place k) l' (v, e, there) h' = ap Place e ∙ sym (letter_told bytes at v l' there h')
-letter_determined bytes at Other (Place k) none (v, e, there) = absurd (none v (drop (at + 1) bytes) there)
-letter_determined bytes at Other Other none none' = refl
+pub letter_determined : (bytes : List ℕ) (at : ℕ) (l l' : Option ℕ) → LetterAt bytes at l → LetterAt bytes at l' → l ≡ l'
+letter_determined bytes at (Some k) l' (v, e, there) h' = ap Some e ∙ sym (letter_told bytes at v l' there h')
+letter_determined bytes at None (Some k) none (v, e, there) = absurd (none v (drop (at + 1) bytes) there)
+letter_determined bytes at None None none none' = refl

@@ -8,7 +8,7 @@ use lib.ListN.{length, drop, get_or, length-drop}
 use lib.Seq.{drop-drop, drop-append_seam, get_or-drop}
 use Rattle.meaning.specs.Limits.{number_limit}
 use Rattle.meaning.specs.Rule.{digits}
-use Rattle.spelling.specs.declared.Digits.TheVariants.{Number}
+use Rattle.std.specs.Prelude.{Some}
 use Rattle.spelling.specs.Scan.{NumberAt}
 
 -- the byte at a place, and what follows the bytes there
@@ -19,10 +19,10 @@ pub after_part_law : (bytes part rest : List ℕ) (at : ℕ) → drop at bytes �
 after_part_law bytes part rest at e = sym (drop-drop (length part) at bytes) ∙ ap (drop (length part)) e ∙ drop-append_seam part rest
 
 -- where the two digits of a number are spelled it stands; and what stands there then
-pub number_there : (bytes : List ℕ) (at n : ℕ) (rest : List ℕ) → n < number_limit → drop at bytes ≡ digits n ++ rest → NumberAt bytes at (Number n)
+pub number_there : (bytes : List ℕ) (at n : ℕ) (rest : List ℕ) → n < number_limit → drop at bytes ≡ digits n ++ rest → NumberAt bytes at (Some n)
 number_there bytes at n rest h e = (h, e ∙ ap (λ (l : List ℕ). digits n ++ l) (sym (after_part_law bytes (digits n) rest at e)))
 
-module _ (bytes : List ℕ) (at n : ℕ) (h : NumberAt bytes at (Number n)) where
+module _ (bytes : List ℕ) (at n : ℕ) (h : NumberAt bytes at (Some n)) where
   pub number_inside : at + 1 < length bytes
   number_inside = omega (arith, length-drop at bytes, ap length h.1)
 

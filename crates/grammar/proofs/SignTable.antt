@@ -3,13 +3,12 @@ use mathlib.Core.Path.{◌≡◌, refl, sym, ap, subst, subst⁻¹, ◌∙◌}
 use mathlib.Core.Logic.{⊎_elim}
 use mathlib.Core.Bool.{Bool, true, false, cond}
 use mathlib.Core.List.{List, [], ◌∷◌}
-use Prim.Native.Nat.{ℕ, ◌≤◌, ◌<◌}
-use lib.Dec.{eqb, leb, ltb}
+use Prim.Native.Nat.{ℕ}
+use lib.Dec.{eqb}
 use lib.ListN.{get_or}
 use types.Run.{OneOf}
 use denote.Enum.Declared.{tag_of}
-use native.Mathlib.Omega.{arith}
-use borrow.Author.Tests.{eqb-true, eqb-false, ne_eqb, leb-false, ltb-false}
+use borrow.Author.Tests.{eqb-true, eqb-false}
 use Rattle.grammar.specs.declared.signs.Sign.{Sign}
 use Rattle.grammar.specs.declared.signs.Sign.TheVariants.{Step, NamedStep, OverWalk, OverTest, TwoWalks, Constant, NamedFluent, Denial, TwoTests, WalkThenTest, SumStep, SomeWalk, SumFluent, SomeTest, Stranger}
 use Rattle.grammar.specs.Signs.{Entry, look_up, sign_table, sign_meant}
@@ -64,42 +63,6 @@ signs b =
 
 pub sign_is : {b : ℕ} {s : Sign} → s ≡ sign_meant b → SignIs b s
 sign_is {b} e = subst (SignIs b) (sym e) (signs b)
-
--- the byte is no row's of those whose bytes lie from one byte on and before another
-abbrev pub Apart : ℕ → ℕ → List Entry → ℕ → Type 0
-Apart lo hi [] b = Unit {0}
-Apart lo hi (row ∷ rows) b =
-    cond (leb lo row.byte)
-    (cond (ltb row.byte hi) ((b ≡ row.byte → ⊥) × Apart lo hi rows b) (Apart lo hi rows b))
-    (Apart lo hi rows b)
-
-apart_from_all : (lo hi : ℕ) (rows : List Entry) (b : ℕ) → lo ≤ b → b < hi → Apart lo hi rows b → Stranger ≡ look_up rows b
-apart_from_all lo hi [] b l h a = refl
-apart_from_all lo hi (row ∷ rows) b l h a =
-    go (apart_from_all lo hi rows b l h) (leb lo row.byte) refl (ltb row.byte hi) refl a
-  where
-    passed : (b ≡ row.byte → ⊥) → Stranger ≡ look_up rows b → Stranger ≡ cond (eqb b row.byte) row.sign (look_up rows b)
-    passed n e = subst⁻¹ (λ (t : Bool). Stranger ≡ cond t row.sign (look_up rows b)) (ne_eqb b row.byte n) e
-
-    go : (Apart lo hi rows b → Stranger ≡ look_up rows b)
-        → (s : Bool)
-        → leb lo row.byte ≡ s
-        → (t : Bool)
-        → ltb row.byte hi ≡ t
-        → cond s (cond t ((b ≡ row.byte → ⊥) × Apart lo hi rows b) (Apart lo hi rows b)) (Apart lo hi rows b)
-        → Stranger ≡ cond (eqb b row.byte) row.sign (look_up rows b)
-    go further true _ true _ a = passed a.0 (further a.1)
-    go further true _ false e a =
-        let above = ltb-false row.byte hi e in
-        passed (λ q. omega (arith, q, above)) (further a)
-    go further false e t _ a =
-        let below = leb-false lo row.byte e in
-        passed (λ q. omega (arith, q, below)) (further a)
-
--- what lies between two bytes, and is no sign that lies there, is no sign
-pub stranger : (lo hi b : ℕ) → lo ≤ b → b < hi → Apart lo hi sign_table b → Stranger ≡ sign_meant b
-unfolding sign_meant
-stranger lo hi b l h a = apart_from_all lo hi sign_table b l h a
 
 -- An arm of a match that takes several signs is told the place of its sign among all.
 abbrev sign_at : ℕ → Sign

@@ -8,7 +8,7 @@ use lib.Seq.{drop-drop, drop-append_seam}
 use Rattle.meaning.specs.Limits.{number_limit}
 use Rattle.meaning.specs.Rule.{Walk, Test, Rule, act, undo, next, prev, seq, alt, star, check, conv, pick, always, fluent, neg, both, diamond, exists, Variable, plain, plus, digits, letter, as_written}
 use Rattle.meaning.specs.Rule.{of_test, of_walk, text, walk_text, test_text, walk_names, actions_in, fluents_in}
-use Rattle.spelling.specs.declared.Digits.TheVariants.{Number}
+use Rattle.std.specs.Prelude.{Some}
 use Rattle.spelling.specs.Scan.{NumberAt}
 use Rattle.grammar.specs.Letters.{Lettered}
 use Rattle.grammar.specs.Standing.{Stands}
@@ -45,8 +45,8 @@ within {r = r} h = omega (arith, some_text r, inside h)
 
 -- The sign at a place and the rule that stands there: what its parts are, and where they stand. One row for each sign of the two tables.
 pub data Spread (bytes : List ℕ) (at : ℕ) : ℕ → Rule → Type 0 where
-  act_at : (a : ℕ) → NumberAt bytes (at + 1) (Number a) → Spread bytes at 97 (of_walk (act (plain a)))
-  undo_at : (a : ℕ) → NumberAt bytes (at + 1) (Number a) → Spread bytes at 114 (of_walk (undo (plain a)))
+  act_at : (a : ℕ) → NumberAt bytes (at + 1) (Some a) → Spread bytes at 97 (of_walk (act (plain a)))
+  undo_at : (a : ℕ) → NumberAt bytes (at + 1) (Some a) → Spread bytes at 114 (of_walk (undo (plain a)))
   next_part_at : Spread bytes at 110 (of_walk next)
   prev_at : Spread bytes at 117 (of_walk prev)
   seq_at : (v w : Walk) → Stands bytes (at + 1) (of_walk v) → Stands bytes (at + 1 + length (walk_text v)) (of_walk w) → Spread bytes at 59 (of_walk (seq v w))
@@ -55,14 +55,14 @@ pub data Spread (bytes : List ℕ) (at : ℕ) : ℕ → Rule → Type 0 where
   check_at : (t : Test) → Stands bytes (at + 1) (of_test t) → Spread bytes at 63 (of_walk (check t))
   conv_at : (w : Walk) → Stands bytes (at + 1) (of_walk w) → Spread bytes at 45 (of_walk (conv w))
   always_at : Spread bytes at 49 (of_test always)
-  fluent_at : (i : ℕ) → NumberAt bytes (at + 1) (Number i) → Spread bytes at 102 (of_test (fluent (plain i)))
+  fluent_at : (i : ℕ) → NumberAt bytes (at + 1) (Some i) → Spread bytes at 102 (of_test (fluent (plain i)))
   neg_at : (t : Test) → Stands bytes (at + 1) (of_test t) → Spread bytes at 33 (of_test (neg t))
   both_at : (t u : Test) → Stands bytes (at + 1) (of_test t) → Stands bytes (at + 1 + length (test_text t)) (of_test u) → Spread bytes at 38 (of_test (both t u))
   diamond_at : (w : Walk) (t : Test) → Stands bytes (at + 1) (of_walk w) → Stands bytes (at + 1 + length (walk_text w)) (of_test t) → Spread bytes at 60 (of_test (diamond w t))
-  sum_act_at : (a : ℕ) (v : Variable) → NumberAt bytes (at + 1) (Number a) → Lettered bytes (at + 3) v → Spread bytes at 98 (of_walk (act (plus a v)))
-  sum_undo_at : (a : ℕ) (v : Variable) → NumberAt bytes (at + 1) (Number a) → Lettered bytes (at + 3) v → Spread bytes at 115 (of_walk (undo (plus a v)))
+  sum_act_at : (a : ℕ) (v : Variable) → NumberAt bytes (at + 1) (Some a) → Lettered bytes (at + 3) v → Spread bytes at 98 (of_walk (act (plus a v)))
+  sum_undo_at : (a : ℕ) (v : Variable) → NumberAt bytes (at + 1) (Some a) → Lettered bytes (at + 3) v → Spread bytes at 115 (of_walk (undo (plus a v)))
   pick_at : (v : Variable) (w : Walk) → Lettered bytes (at + 1) v → Stands bytes (at + 2) (of_walk w) → Spread bytes at 112 (of_walk (pick v w))
-  sum_fluent_at : (i : ℕ) (v : Variable) → NumberAt bytes (at + 1) (Number i) → Lettered bytes (at + 3) v → Spread bytes at 103 (of_test (fluent (plus i v)))
+  sum_fluent_at : (i : ℕ) (v : Variable) → NumberAt bytes (at + 1) (Some i) → Lettered bytes (at + 3) v → Spread bytes at 103 (of_test (fluent (plus i v)))
   exists_at : (v : Variable) (t : Test) → Lettered bytes (at + 1) v → Stands bytes (at + 2) (of_test t) → Spread bytes at 101 (of_test (exists v t))
 
 module _ (bytes : List ℕ) (at : ℕ) where
@@ -82,7 +82,7 @@ module _ (bytes : List ℕ) (at : ℕ) where
 module _ (bytes : List ℕ) (at : ℕ) where
   -- a number with a letter behind it, and a letter before a part
   sum_there : (b n : ℕ) (v : Variable) (rest : List ℕ) → n < number_limit → drop at bytes ≡ (b ∷ digits n ++ letter v ∷ []) ++ rest
-      → NumberAt bytes (at + 1) (Number n) × Lettered bytes (at + 3) v
+      → NumberAt bytes (at + 1) (Some n) × Lettered bytes (at + 3) v
   sum_there b n v rest h e =
       let there : drop (at + 1) bytes ≡ digits n ++ (letter v ∷ rest) = onward bytes at e in
       let same : at + 3 ≡ at + 1 + 2 = omega arith in

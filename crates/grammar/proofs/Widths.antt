@@ -1,12 +1,12 @@
 -- Laws of the table of ends: what it holds at a place follows from what it holds after it, and where a rule is spelled it is where that rule ends. No code.
 use mathlib.Core.Path.{◌≡◌, refl, sym, ap, subst⁻¹, ◌∙◌}
-use mathlib.Core.Logic.{◌⊎◌, inl, inr, ⊎_elim}
+use mathlib.Core.Logic.{◌⊎◌, inl, inr}
 use mathlib.Core.List.{List, [], ◌∷◌, ◌++◌, append_assoc}
 use Prim.Native.Nat.{ℕ, zero, suc, ◌+◌, ◌-◌, ◌≤◌, ◌<◌, min}
 use native.Mathlib.Omega.{arith}
-use native.Mathlib.Decide.{dec_le, dec_lt, ℕ_discrete}
+use native.Mathlib.Decide.{dec_le, dec_lt}
 use lib.ListN.{length, drop, get_or, set, replicate, length-drop, length-append, length-set, length-replicate}
-use lib.Seq.{drop-drop, drop-length, drop-append_seam, get_or-set_same, get_or-set_other, ext_get_or}
+use lib.Seq.{drop-drop, drop-length, drop-append_seam, get_or-set_same, ext_get_or}
 use Rattle.meaning.specs.Limits.{text_limit}
 use Rattle.meaning.specs.Rule.{Walk, Test, act, undo, next, prev, seq, alt, star, check, conv, pick, always, fluent, neg, both, diamond, exists, Variable, plain, plus, letter, walk_text, test_text, of_test, of_walk, text}
 use Rattle.meaning.specs.Rule as meaning
@@ -92,7 +92,7 @@ module _ (bytes : List ℕ) (at : ℕ) where
     pub end_digits : (many : ℕ) → Named many s → at + min many (length bytes - at) ≡ end_at bytes at
     end_digits many w = omega (arith, end_by, w left after, length-drop (at + 1) bytes)
 
-    pub end_cut : OverLettered s → length bytes < at + 2 → length bytes ≡ end_at bytes at
+    end_cut : OverLettered s → length bytes < at + 2 → length bytes ≡ end_at bytes at
     end_cut w l = omega (arith, end_by, w left after, length-drop (at + 1) bytes)
 
     -- behind a letter
@@ -115,6 +115,11 @@ module _ (bytes : List ℕ) (at : ℕ) where
         let second : width (drop (end_at bytes (at + 1)) bytes) ≡ get_or (widths l) (width l) 0 = ap width there ∙ sym (width_drop l (width l) (omega arith)) in
         omega (arith, second, end_by, w left after)
 
+-- the end of what is no sign, behind the last byte
+end_at_end : (bytes : List ℕ) → end_at bytes (length bytes) ≡ length bytes
+unfolding widths
+end_at_end bytes = ap (λ (l : List ℕ). length bytes + width l) (drop-length bytes) ∙ omega arith
+
 -- and by a table of the ends after it
 module _ (bytes ends : List ℕ) (at : ℕ) (t : TableFrom bytes ends at) where
   pub middle_inside : get_or ends (at + 1) 0 ≤ length bytes
@@ -124,8 +129,16 @@ module _ (bytes ends : List ℕ) (at : ℕ) (t : TableFrom bytes ends at) where
     pub table_rule : OverOne s → get_or ends (at + 1) 0 ≡ end_at bytes at
     table_rule w = t.told (at + 1) (omega arith) (omega (arith, t.inside)) ∙ end_rule bytes at t.inside s e w
 
-    pub table_lettered : OverLettered s → at + 2 ≤ length bytes → get_or ends (at + 2) 0 ≡ end_at bytes at
-    table_lettered w l = t.told (at + 2) (omega arith) l ∙ end_lettered bytes at t.inside s e w l
+    pub table_lettered : OverLettered s → get_or ends (min (length bytes) (at + 2)) 0 ≡ end_at bytes at
+    table_lettered w = go (dec_le (at + 2) (length bytes))
+      where
+        go : Dec (at + 2 ≤ length bytes) → get_or ends (min (length bytes) (at + 2)) 0 ≡ end_at bytes at
+        go (yes l) =
+            let there : min (length bytes) (at + 2) ≡ at + 2 = omega arith in
+            rw there (t.told (at + 2) (omega arith) l ∙ end_lettered bytes at t.inside s e w l)
+        go (no l) =
+            let there : min (length bytes) (at + 2) ≡ length bytes = omega arith in
+            rw there (t.told (length bytes) t.inside (omega arith) ∙ end_at_end bytes ∙ end_cut bytes at t.inside s e w (omega arith))
 
     pub table_rules : OverTwo s → get_or ends (get_or ends (at + 1) 0) 0 ≡ end_at bytes at
     table_rules w =
@@ -196,10 +209,6 @@ pub record Filling (bytes before ends : List ℕ) (at : ℕ) : Type 0 where
   pub told : (i : ℕ) → at ≤ i → i ≤ length bytes → get_or ends i 0 ≡ end_at bytes i
   pub kept : (i : ℕ) → length bytes < i → get_or ends i 0 ≡ get_or before i 0
 
-end_at_end : (bytes : List ℕ) → end_at bytes (length bytes) ≡ length bytes
-unfolding widths
-end_at_end bytes = ap (λ (l : List ℕ). length bytes + width l) (drop-length bytes) ∙ omega arith
-
 -- first the text's own end
 abbrev begun : List ℕ → List ℕ → List ℕ
 begun bytes before = set before (length bytes) (length bytes)
@@ -215,42 +224,6 @@ filling_starts bytes before short room = record {
       subst⁻¹ (λ (k : ℕ). get_or (begun bytes before) k 0 ≡ end_at bytes k) e (get_or-set_same before (length bytes) (length bytes) 0 room ∙ sym (end_at_end bytes));
   kept = λ i h. refl;
 }
-
-pub filling_goes_on : (bytes before ends : List ℕ) (at : ℕ) → 0 < at → Filling bytes before ends at → Filling bytes before (set ends (at - 1) (end_at bytes (at - 1))) (at - 1)
-filling_goes_on bytes before ends at some f = record {
-  inside = omega (arith, f.inside);
-  short = f.short;
-  room = rw length-set f.room;
-  long = length-set ends (at - 1) (end_at bytes (at - 1)) ∙ f.long;
-  told = λ i h l. go i l (ℕ_discrete i (at - 1)) h;
-  kept = λ i h. get_or-set_other ends (at - 1) i (end_at bytes (at - 1)) 0 (omega (arith, f.inside)) ∙ f.kept i h;
-}
-  where
-    go : (i : ℕ) → i ≤ length bytes → Dec (i ≡ at - 1) → at - 1 ≤ i → get_or (set ends (at - 1) (end_at bytes (at - 1))) i 0 ≡ end_at bytes i
-    go i l (yes e) h =
-        subst⁻¹ (λ (k : ℕ). get_or (set ends (at - 1) (end_at bytes (at - 1))) k 0 ≡ end_at bytes k) e
-        (get_or-set_same ends (at - 1) (end_at bytes (at - 1)) 0 (omega (arith, f.inside, f.room)))
-    go i l (no n) h = get_or-set_other ends (at - 1) i (end_at bytes (at - 1)) 0 n ∙ f.told i (omega arith) l
-
-pub filling_asks : (bytes before ends : List ℕ) (at : ℕ) → 0 < at → Filling bytes before ends at → TableFrom bytes ends (at - 1)
-filling_asks bytes before ends at some f =
-    record { inside = omega (arith, f.inside); short = f.short; room = f.room; told = λ i h l. f.told i (omega arith) l }
-
-pub filling_ends : (bytes before ends : List ℕ) → Filling bytes (begun bytes before) ends 0 → FillOutcome bytes before ends
-filling_ends bytes before ends f =
-    let same : length ends ≡ length before = f.long ∙ length-set before (length bytes) (length bytes) in
-    record {
-      filled = λ h r. record {
-        long = same;
-        told = λ i. f.told i (omega arith);
-        kept = λ i l. f.kept i l ∙ get_or-set_other before (length bytes) i (length bytes) 0 (omega arith);
-      };
-      untouched = ⊎_elim (λ h. absurd (omega (arith, f.short))) (λ h. absurd (omega (arith, f.room)));
-    }
-
--- else the table is left as it was
-pub filling_left : (bytes before : List ℕ) → (text_limit < length bytes) ⊎ (length before ≤ length bytes) → FillOutcome bytes before before
-filling_left bytes before o = record { filled = λ h r. absurd (⊎_elim (λ l. omega arith) (λ l. omega arith) o); untouched = λ h. refl }
 
 -- The contract of `fill_ends` leaves one table.
 same_filled : (bytes before after after' : List ℕ) → Filled bytes before after → Filled bytes before after' → after ≡ after'

@@ -1,8 +1,6 @@
 -- A variable's letter at a place of a text. "Variables are `v`, `w`, `x`, `y`."
-use Rattle.std.specs.Prelude.{◌≡◌, List, [], ◌∷◌, ℕ, ◌+◌, drop, get_or}
+use Rattle.std.specs.Prelude.{◌≡◌, Option, Some, None, List, [], ◌∷◌, ℕ, ◌+◌, drop, get_or}
 use Rattle.meaning.specs.Rule.{Variable, var_v, var_w, var_x, var_y, letter}
-use Rattle.grammar.specs.declared.letters.Letter.{Letter}
-use Rattle.grammar.specs.declared.letters.Letter.TheVariants.{Place, Other}
 
 -- the variables in the order of their letters, and which of them each is
 abbrev pub variables : List Variable
@@ -22,6 +20,6 @@ abbrev pub Lettered : List ℕ → ℕ → Variable → Type 0
 Lettered bytes at v = drop at bytes ≡ letter v ∷ drop (at + 1) bytes
 
 -- the letter of the variable at this place of the order stands there; or no variable's does
-abbrev pub LetterAt : List ℕ → ℕ → Letter → Type 0
-LetterAt bytes at (Place k) = (v : Variable) × (k ≡ place v) × Lettered bytes at v
-LetterAt bytes at Other = (v : Variable) (rest : List ℕ) → drop at bytes ≡ letter v ∷ rest → ⊥
+abbrev pub LetterAt : List ℕ → ℕ → Option ℕ → Type 0
+LetterAt bytes at (Some k) = (v : Variable) × (k ≡ place v) × Lettered bytes at v
+LetterAt bytes at None = (v : Variable) (rest : List ℕ) → drop at bytes ≡ letter v ∷ rest → ⊥

@@ -14,12 +14,7 @@ fn within(text: &[u8], at: usize, width: usize) -> u8
     requires { (at < length text.now) × (length text.now ≤ text_limit) }
     ensures { result ≡ at + min width (length text.now - at) }
 {
-    let left = text.len() - at;
-    if left < width {
-        text.len() as u8
-    } else {
-        (at + width) as u8
-    }
+    (at + width.min(text.len() - at)) as u8
 }
 
 // Where the rule at a place ends, by the ends of those after it. What is no sign ends after itself, a number and a letter at the text's end at the latest.
@@ -33,16 +28,9 @@ fn end_at(text: &[u8], ends: &[u8], at: usize) -> u8
         Sign::NamedStep | Sign::NamedFluent => within(text, at, 3),
         Sign::SumStep | Sign::SumFluent => within(text, at, 4),
         Sign::OverWalk | Sign::OverTest | Sign::Denial => ends[next],
-        Sign::SomeWalk | Sign::SomeTest => {
-            let left = text.len() - at;
-            if left < 2 {
-                text.len() as u8
-            } else {
-                ends[at + 2]
-            }
-        }
+        Sign::SomeWalk | Sign::SomeTest => ends[text.len().min(at + 2)],
         Sign::TwoWalks | Sign::TwoTests | Sign::WalkThenTest => {
-            let middle = ends[next] as usize;
+            let middle = usize::from(ends[next]);
             ends[middle]
         }
     }
@@ -53,25 +41,13 @@ pub fn fill_ends(text: &[u8], ends: &mut [u8])
     ensures { FillOutcome text.now ends.old ends.new }
 {
     let length = text.len();
-    if TEXT_LIMIT < length {
+    if TEXT_LIMIT < length || ends.len() <= length {
         return;
     }
-    if ends.len() <= length {
-        return;
+    ends[length] = length as u8;
+    for at in (0..length).rev() {
+        ends[at] = end_at(text, ends, at);
     }
-    let mut at = length;
-    ends[at] = at as u8;
-    while 0 < at {
-        at -= 1;
-        let end = end_at(text, ends, at);
-        ends[at] = end;
-    }
-}
-
-fn wide(end: u8) -> usize
-    ensures { result ≡ end }
-{
-    end as usize
 }
 
 // Where the second part of the sign at a place begins: behind the first.
@@ -79,6 +55,5 @@ pub fn second(ends: &[u8; ENDS_ROOM], at: usize) -> usize
     requires { at + 1 ≤ text_limit }
     ensures { result ≡ get_or ends.now (at + 1) 0 }
 {
-    let first = at + 1;
-    wide(ends[first])
+    usize::from(ends[at + 1])
 }

@@ -1,5 +1,5 @@
 // The table of signs: which bytes are signs of a walk, which of a test, and what follows each. Reader, table of ends and rewriter go by it.
-ghost use Rattle.std.specs.Prelude.{◌≡◌, ◌≤◌, ◌<◌};
+ghost use Rattle.std.specs.Prelude.{◌≡◌};
 ghost use Rattle.grammar.specs.Signs.{sign_meant, turns_back};
 
 // A byte as a sign, by what follows it: seven of a walk, seven of a test. No byte is a sign of both, and a variable's letter is none.
@@ -37,127 +37,70 @@ pub enum Sign {
     Stranger,
 }
 
-// The table in seven parts, by the order of the bytes: below `-` (45), ..
-fn up_to_star(byte: u8) -> Sign
-    requires { byte < 45 }
-    ensures { result ≡ sign_meant byte }
-{
-    match byte {
-        b'!' => Sign::Denial,
-        b'&' => Sign::TwoTests,
-        b'*' => Sign::OverWalk,
-        _ => Sign::Stranger,
-    }
-}
-
-// .. from there to below `;` (59), ..
-fn minus_and_one(byte: u8) -> Sign
-    requires { (45 ≤ byte) × (byte < 59) }
-    ensures { result ≡ sign_meant byte }
-{
-    match byte {
-        b'-' => Sign::OverWalk,
-        b'1' => Sign::Constant,
-        _ => Sign::Stranger,
-    }
-}
-
-// .. from there to below `a` (97), ..
-fn semicolon_to_question(byte: u8) -> Sign
-    requires { (59 ≤ byte) × (byte < 97) }
-    ensures { result ≡ sign_meant byte }
-{
-    match byte {
-        b';' => Sign::TwoWalks,
-        b'<' => Sign::WalkThenTest,
-        b'?' => Sign::OverTest,
-        _ => Sign::Stranger,
-    }
-}
-
-// .. from there to below `e` (101), ..
-fn a_and_b(byte: u8) -> Sign
-    requires { (97 ≤ byte) × (byte < 101) }
-    ensures { result ≡ sign_meant byte }
-{
-    match byte {
-        b'a' => Sign::NamedStep,
-        b'b' => Sign::SumStep,
-        _ => Sign::Stranger,
-    }
-}
-
-// .. from there to below `n` (110), ..
-fn e_to_g(byte: u8) -> Sign
-    requires { (101 ≤ byte) × (byte < 110) }
-    ensures { result ≡ sign_meant byte }
-{
-    match byte {
-        b'e' => Sign::SomeTest,
-        b'f' => Sign::NamedFluent,
-        b'g' => Sign::SumFluent,
-        _ => Sign::Stranger,
-    }
-}
-
-// .. from there to below `s` (115), ..
-fn n_to_r(byte: u8) -> Sign
-    requires { (110 ≤ byte) × (byte < 115) }
-    ensures { result ≡ sign_meant byte }
-{
-    match byte {
-        b'n' => Sign::Step,
-        b'p' => Sign::SomeWalk,
-        b'r' => Sign::NamedStep,
-        _ => Sign::Stranger,
-    }
-}
-
-// .. and from there on.
-fn s_to_bar(byte: u8) -> Sign
-    requires { 115 ≤ byte }
-    ensures { result ≡ sign_meant byte }
-{
-    match byte {
-        b's' => Sign::SumStep,
-        b'u' => Sign::Step,
-        b'|' => Sign::TwoWalks,
-        _ => Sign::Stranger,
-    }
-}
-
-// A match of all the signs the compiler would leave a call of its own, and each sign would be branched on twice; parts of three it sets into whoever asks.
+// The sign that a byte is. One match of all the signs was tried, and is slower: the compiler leaves it a call of its own, and each sign is branched on twice (a verdict took 1.04 to 1.07 times
+// as long, of a rule of 255 bytes 1.27 times; set into whoever asks by `inline(always)`, 1.05 to 1.21). Matches of three signs at most it turns into comparisons, and sets these into whoever asks.
+#[tactic(auto, unfolding(crate::specs::Signs::sign_meant))]
 pub fn sign_of(byte: u8) -> Sign
     ensures { result ≡ sign_meant byte }
 {
     if byte < b'a' {
         if byte < b'-' {
-            up_to_star(byte)
+            match byte {
+                b'!' => Sign::Denial,
+                b'&' => Sign::TwoTests,
+                b'*' => Sign::OverWalk,
+                _ => Sign::Stranger,
+            }
         } else if byte < b';' {
-            minus_and_one(byte)
+            match byte {
+                b'-' => Sign::OverWalk,
+                b'1' => Sign::Constant,
+                _ => Sign::Stranger,
+            }
         } else {
-            semicolon_to_question(byte)
+            match byte {
+                b';' => Sign::TwoWalks,
+                b'<' => Sign::WalkThenTest,
+                b'?' => Sign::OverTest,
+                _ => Sign::Stranger,
+            }
         }
     } else if byte < b'n' {
         if byte < b'e' {
-            a_and_b(byte)
+            match byte {
+                b'a' => Sign::NamedStep,
+                b'b' => Sign::SumStep,
+                _ => Sign::Stranger,
+            }
         } else {
-            e_to_g(byte)
+            match byte {
+                b'e' => Sign::SomeTest,
+                b'f' => Sign::NamedFluent,
+                b'g' => Sign::SumFluent,
+                _ => Sign::Stranger,
+            }
         }
     } else if byte < b's' {
-        n_to_r(byte)
+        match byte {
+            b'n' => Sign::Step,
+            b'p' => Sign::SomeWalk,
+            b'r' => Sign::NamedStep,
+            _ => Sign::Stranger,
+        }
     } else {
-        s_to_bar(byte)
+        match byte {
+            b's' => Sign::SumStep,
+            b'u' => Sign::Step,
+            b'|' => Sign::TwoWalks,
+            _ => Sign::Stranger,
+        }
     }
 }
 
 // "In a job `-`, `r` and `u` may stand only inside the walk of a `<`", and "9 covers `s`": one of these.
+#[tactic(auto, unfolding(crate::specs::Signs::turns_back))]
 pub fn turns(byte: u8) -> bool
     ensures { result ≡ turns_back byte }
 {
-    match byte {
-        b'-' | b'r' | b'u' => true,
-        b's' => true,
-        _ => false,
-    }
+    matches!(byte, b'-' | b'r' | b'u' | b's')
 }

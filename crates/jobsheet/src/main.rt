@@ -8,20 +8,16 @@ use std::io::Read;
 
 const READ_LIMIT: usize = SHEET_LIMIT + 1;
 
-// Reads to the end of the buffer or of the input, or up to a read that fails: how many bytes those are.
+// Reads to the end of the buffer or of the input, or up to a read that fails: how many bytes those are. The loop counts no index: a read gives as many bytes
+// as have come, so that a `for` over single bytes would be slower. None is made where the buffer is full.
 fn read_full(input: &mut impl Read, buffer: &mut [u8]) -> usize
     ensures { result ≤ length buffer.new }
 {
     let mut n = 0;
     while n < buffer.len() {
         match input.read(&mut buffer[n..]) {
-            Ok(more) => {
-                if more == 0 {
-                    return n;
-                }
-                n += more;
-            }
-            Err(_) => return n,
+            Ok(more @ 1..) => n += more,
+            _ => break,
         }
     }
     n

@@ -8,15 +8,17 @@ use native.Mathlib.Omega.{arith}
 use native.Mathlib.Nat.{zero-add}
 use lib.ListN.{length, drop}
 use lib.Seq.{sets, sets-eq}
+use Rattle.std.specs.Prelude.{Result, Ok, Err}
 use Rattle.meaning.specs.Rule.{Kind, Rule, Opens}
-use Rattle.meaning.specs.Refusal.{Row, Refused, Accepted, falls, TooShort, no_count}
-use Rattle.meaning.proofs.Refusal.{here, accepts, passes, refused_first, refused_second, accepted_both, answered_determined}
+use Rattle.meaning.specs.Refusal.{Row, Accepted, falls, TooShort, no_count}
+use Rattle.meaning.proofs.Refusal.{here, accepts, passes, refused_second, accepted_both, answered_determined}
 use Rattle.meaning.proofs.Reading.{unique_reading}
-use Rattle.refusal.proofs.Numbers.{one_number, some_number}
+use Rattle.refusal.specs.declared.Refusal.{Refusal}
+use Rattle.refusal.specs.Given.{number_given, value_given}
+use Rattle.refusal.proofs.Given.{same_given}
 use Rattle.theory.specs.declared.Counts.{Counts}
 use Rattle.rule.specs.Outcome.{Spelled, With, rule_rows}
-use Rattle.normal.specs.declared.NormalAnswer.{NormalAnswer}
-use Rattle.normal.specs.Answer.{normal_text, number_given, count_given, output_rows, normal_rows, NormalAnswered}
+use Rattle.normal.specs.Answer.{normal_text, output_rows, normal_rows, NormalAnswered}
 use Rattle.normal.specs.Whole.{ByRoom}
 
 -- What the checks make, one after the other.
@@ -26,10 +28,6 @@ module _ (kind : Kind) (bytes : List ℕ) (counts : Counts) (before : List ℕ) 
 
   abbrev second : List {1} Row
   second = output_rows kind bytes (length before)
-
-  -- the rule is refused
-  pub rule_held : {number : ℕ} → Refused first number → NormalAnswered kind bytes counts before number no_count before
-  rule_held r = inl (record { refused = refused_first first second r; blank = record { none = refl; same = refl } })
 
   module _ (ok : Accepted first) (rule : Rule) (spells : Opens kind bytes rule []) where
     -- the output is too short
@@ -57,10 +55,10 @@ module _ (kind : Kind) (bytes : List ℕ) (counts : Counts) (before : List ℕ) 
     })
 
     -- whichever it is
-    pub by_room : (a : NormalAnswer) (after : List ℕ) → ByRoom rule before a after → NormalAnswered kind bytes counts before (number_given a) (count_given a) after
-    by_room (NormalAnswer.Refused why) after h =
+    pub by_room : (a : Result ℕ Refusal) (after : List ℕ) → ByRoom rule before a after → NormalAnswered kind bytes counts before (number_given a) (value_given no_count a) after
+    by_room (Err why) after h =
         subst₂ (λ (n : ℕ) (l : List ℕ). NormalAnswered kind bytes counts before n no_count l) (sym h.0) (sym h.2) (short_held h.1)
-    by_room (NormalAnswer.Written n) after h = written_out h.0 h.1 h.2
+    by_room (Ok n) after h = written_out h.0 h.1 h.2
 
 -- its numbers rise, but that 13 comes before 12
 pub normal_rises : (kind : Kind) (bytes : List ℕ) (counts : Counts) (room : ℕ) → falls (normal_rows kind bytes counts room) ≡ (13, 12) ∷ []
@@ -80,14 +78,8 @@ normal_determined {before = before} o o' =
       h.written ∙ ap (λ (r : Rule). normal_text r ++ drop (length (normal_text r)) before) e ∙ sym k.written,
     ))
 
--- So it leaves one answer: the number and the count tell which. No case of refusal has the number 0.
-same_answer : (a b : NormalAnswer) → number_given a ≡ number_given b → count_given a ≡ count_given b → a ≡ b
-same_answer (NormalAnswer.Refused why) (NormalAnswer.Refused why') e f = ap NormalAnswer.Refused (one_number why why' e)
-same_answer (NormalAnswer.Refused why) (NormalAnswer.Written n) e f = absurd (some_number why e)
-same_answer (NormalAnswer.Written n) (NormalAnswer.Refused why) e f = absurd (some_number why (sym e))
-same_answer (NormalAnswer.Written n) (NormalAnswer.Written m) e f = ap NormalAnswer.Written f
-
-pub answer_determined : {kind : Kind} {bytes : List ℕ} {counts : Counts} {before after after' : List ℕ} (a a' : NormalAnswer)
-    → NormalAnswered kind bytes counts before (number_given a) (count_given a) after → NormalAnswered kind bytes counts before (number_given a') (count_given a') after'
+-- So it leaves one answer: the number and the count tell which.
+pub answer_determined : {kind : Kind} {bytes : List ℕ} {counts : Counts} {before after after' : List ℕ} (a a' : Result ℕ Refusal)
+    → NormalAnswered kind bytes counts before (number_given a) (value_given no_count a) after → NormalAnswered kind bytes counts before (number_given a') (value_given no_count a') after'
     → (a ≡ a') × (after ≡ after')
-answer_determined a a' h h' = let (n, c, e) = normal_determined h h' in (same_answer a a' n c, e)
+answer_determined a a' h h' = let (n, c, e) = normal_determined h h' in (same_given no_count a a' n c, e)

@@ -3,14 +3,10 @@ use mathlib.Core.Path.{◌≡◌, refl, sym}
 use mathlib.Core.Bool.{Bool, true, false, not, false≢true}
 use mathlib.Core.List.{[], ◌∷◌, ◌++◌}
 use Prim.Native.Nat.{ℕ}
-use borrow.Author.Tests.{ne_eqb}
 use Rattle.meaning.specs.Rule.{Walk, Test, act, undo, next, prev, seq, alt, star, check, conv, pick, Variable, plain, plus, letter, walk_text, test_text, digits}
 use Rattle.meaning.specs.Normal.{normal, normal_test}
 use Rattle.normal.specs.Place.{facing}
-use Rattle.normal.specs.Sign.{turned_sign, facing_sign}
-
-pub turned_other : (b : ℕ) → (b ≡ 97 → ⊥) → (b ≡ 114 → ⊥) → (b ≡ 110 → ⊥) → (b ≡ 117 → ⊥) → (b ≡ 98 → ⊥) → (b ≡ 115 → ⊥) → turned_sign b ≡ b
-turned_other b a r n u f t = simp (ne_eqb b 97 a, ne_eqb b 114 r, ne_eqb b 110 n, ne_eqb b 117 u, ne_eqb b 98 f, ne_eqb b 115 t)
+use Rattle.normal.specs.Sign.{facing_sign}
 
 -- What each sign of a walk is rewritten to, forwards and under a converse.
 

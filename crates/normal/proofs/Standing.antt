@@ -1,6 +1,6 @@
 -- What stands where the rewriter reads a sign, by the table of signs: a walk's sign is a walk's, and its parts stand where the table of ends says. No code.
 use mathlib.Core.Path.{◌≡◌, refl, sym, subst, ◌∙◌}
-use mathlib.Core.Logic.{◌⊎◌, inl, inr}
+use mathlib.Core.Logic.{◌⊎◌, inl, inr, ⊎_elim}
 use mathlib.Core.List.{List}
 use Prim.Native.Nat.{ℕ, ◌+◌}
 use lib.ListN.{length, get_or}
@@ -38,22 +38,12 @@ stands_of_test (diamond_at w t p q) e n = subst NoTest e n
 stands_of_test (sum_fluent_at i v d l) e n = subst NoTest e n
 stands_of_test (exists_at v t l p) e n = subst NoTest e n
 
--- so what is left when the other signs of a walk, of a test, have had their arms
-pub two_walks : {bytes : List ℕ} {at : ℕ} {x : Walk} {s : Sign} → Stands bytes at (of_walk x) → s ≡ sign_meant (get_or bytes at 0) → (s ≡ TwoWalks) ⊎ NoWalk s → TwoWalks ≡ sign_meant (get_or bytes at 0)
-two_walks h e (inl f) = sym f ∙ e
-two_walks h e (inr n) = absurd (stands_of_walk (spread h _ refl) e n)
-
-pub walk_test : {bytes : List ℕ} {at : ℕ} {t : Test} {s : Sign} → Stands bytes at (of_test t) → s ≡ sign_meant (get_or bytes at 0) → (s ≡ WalkThenTest) ⊎ NoTest s
-    → WalkThenTest ≡ sign_meant (get_or bytes at 0)
-walk_test h e (inl f) = sym f ∙ e
-walk_test h e (inr n) = absurd (stands_of_test (spread h _ refl) e n)
-
 -- what is read behind a part stands where the table says that the part ends
 pub behind : {bytes ends : List ℕ} {at : ℕ} {x y : Rule} → Ends bytes ends → Stands bytes at x → Stands bytes (at + length (text x)) y → Stands bytes (get_or ends at 0) y
 behind {bytes} {ends} {at} {x} {y} table h k = subst (λ (i : ℕ). Stands bytes i y) (sym (table.each at x h)) k
 
 -- what no other arm of the walk's rewriter takes is a sign of two walks, or begins no walk
-pub left_to_walks : (s : Sign) → (s ≡ Step → ⊥) → (s ≡ NamedStep → ⊥) → (s ≡ OverWalk → ⊥) → (s ≡ OverTest → ⊥) → (s ≡ SumStep → ⊥) → (s ≡ SomeWalk → ⊥) → (s ≡ TwoWalks) ⊎ NoWalk s
+left_to_walks : (s : Sign) → (s ≡ Step → ⊥) → (s ≡ NamedStep → ⊥) → (s ≡ OverWalk → ⊥) → (s ≡ OverTest → ⊥) → (s ≡ SumStep → ⊥) → (s ≡ SomeWalk → ⊥) → (s ≡ TwoWalks) ⊎ NoWalk s
 left_to_walks Step n _ _ _ _ _ = absurd (n refl)
 left_to_walks NamedStep _ n _ _ _ _ = absurd (n refl)
 left_to_walks OverWalk _ _ n _ _ _ = absurd (n refl)
@@ -71,7 +61,7 @@ left_to_walks SomeTest _ _ _ _ _ _ = inr tt
 left_to_walks Stranger _ _ _ _ _ _ = inr tt
 
 -- what no other arm of the test's rewriter takes is a `<`, or begins no test
-pub left_to_tests : (s : Sign) → (s ≡ Constant → ⊥) → (s ≡ NamedFluent → ⊥) → (s ≡ Denial → ⊥) → (s ≡ TwoTests → ⊥) → (s ≡ SumFluent → ⊥) → (s ≡ SomeTest → ⊥) → (s ≡ WalkThenTest) ⊎ NoTest s
+left_to_tests : (s : Sign) → (s ≡ Constant → ⊥) → (s ≡ NamedFluent → ⊥) → (s ≡ Denial → ⊥) → (s ≡ TwoTests → ⊥) → (s ≡ SumFluent → ⊥) → (s ≡ SomeTest → ⊥) → (s ≡ WalkThenTest) ⊎ NoTest s
 left_to_tests Step _ _ _ _ _ _ = inr tt
 left_to_tests NamedStep _ _ _ _ _ _ = inr tt
 left_to_tests OverWalk _ _ _ _ _ _ = inr tt
@@ -87,3 +77,14 @@ left_to_tests SomeWalk _ _ _ _ _ _ = inr tt
 left_to_tests SumFluent _ _ _ _ n _ = absurd (n refl)
 left_to_tests SomeTest _ _ _ _ _ n = absurd (n refl)
 left_to_tests Stranger _ _ _ _ _ _ = inr tt
+
+-- so that sign it is, where a walk stands, and a test
+pub two_walks : {bytes : List ℕ} {at : ℕ} {x : Walk} {s : Sign} → Stands bytes at (of_walk x) → s ≡ sign_meant (get_or bytes at 0)
+    → (s ≡ Step → ⊥) → (s ≡ NamedStep → ⊥) → (s ≡ OverWalk → ⊥) → (s ≡ OverTest → ⊥) → (s ≡ SumStep → ⊥) → (s ≡ SomeWalk → ⊥) → TwoWalks ≡ sign_meant (get_or bytes at 0)
+two_walks {s = s} h e step named over check sum some =
+    ⊎_elim (λ f. sym f ∙ e) (λ n. absurd (stands_of_walk (spread h _ refl) e n)) (left_to_walks s step named over check sum some)
+
+pub walk_test : {bytes : List ℕ} {at : ℕ} {t : Test} {s : Sign} → Stands bytes at (of_test t) → s ≡ sign_meant (get_or bytes at 0)
+    → (s ≡ Constant → ⊥) → (s ≡ NamedFluent → ⊥) → (s ≡ Denial → ⊥) → (s ≡ TwoTests → ⊥) → (s ≡ SumFluent → ⊥) → (s ≡ SomeTest → ⊥) → WalkThenTest ≡ sign_meant (get_or bytes at 0)
+walk_test {s = s} h e constant named denial both sum some =
+    ⊎_elim (λ f. sym f ∙ e) (λ n. absurd (stands_of_test (spread h _ refl) e n)) (left_to_tests s constant named denial both sum some)

@@ -8,7 +8,7 @@ use native.Mathlib.Numerals.{add-one}
 use lib.ListN.{length, set, length-append}
 use lib.Seq.{sets}
 use Rattle.meaning.specs.Rule.{Rule, Variable, text, digits, letter}
-use Rattle.spelling.specs.declared.Digits.TheVariants.{Number}
+use Rattle.std.specs.Prelude.{Some}
 use Rattle.spelling.specs.Scan.{NumberAt}
 use Rattle.grammar.specs.Letters.{Lettered}
 use Rattle.grammar.proofs.Numbers.{byte, number_tens, number_ones}
@@ -28,7 +28,7 @@ sets_two : (l m k : List ℕ) (i t : ℕ) (xs ys : List ℕ) → m ≡ sets l i 
 sets_two l m k i t xs ys p q e = e ∙ ap₂ (λ (n : List ℕ) (j : ℕ). sets n j ys) p q ∙ sym (sets_append l i xs ys)
 
 -- a sign, and the two digits of a number behind it
-digits_put : (bytes before mid after : List ℕ) (at to to₁ n s : ℕ) → mid ≡ set before to s → NumberAt bytes at (Number n) → NumberWritten bytes at (to + 1) mid to₁ after
+digits_put : (bytes before mid after : List ℕ) (at to to₁ n s : ℕ) → mid ≡ set before to s → NumberAt bytes at (Some n) → NumberWritten bytes at (to + 1) mid to₁ after
     → after ≡ sets before to (s ∷ digits n)
 digits_put bytes before mid after at to to₁ n s sign d h = h.copied ∙ rw (number_tens bytes at n d, number_ones bytes at n d, sign) (simp add-one)
 
@@ -39,13 +39,13 @@ module _ {to : ℕ} {before mid : List ℕ} {s : ℕ} {y : Rule} (sign : mid ≡
   leaf f = record { wrote = omega (arith, ap length f); bytes = sign ∙ ap (sets before to) (sym f) }
 
   -- a sign and its number
-  pub named : {bytes after : List ℕ} {at to₁ : ℕ} (n : ℕ) → NumberAt bytes at (Number n) → NumberWritten bytes at (to + 1) mid to₁ after → text y ≡ s ∷ digits n
+  pub named : {bytes after : List ℕ} {at to₁ : ℕ} (n : ℕ) → NumberAt bytes at (Some n) → NumberWritten bytes at (to + 1) mid to₁ after → text y ≡ s ∷ digits n
       → Written y to before to₁ after
   named {bytes} {after} {at} {to₁} n d h f =
       record { wrote = omega (arith, ap length f, h.wrote); bytes = digits_put bytes before mid after at to to₁ n s sign d h ∙ ap (sets before to) (sym f) }
 
   -- a sign, its number, and a letter behind that
-  pub sum : {bytes after last : List ℕ} {at at₁ to₁ to₂ : ℕ} (n : ℕ) (v : Variable) → NumberAt bytes at (Number n) → Lettered bytes at₁ v
+  pub sum : {bytes after last : List ℕ} {at at₁ to₁ to₂ : ℕ} (n : ℕ) (v : Variable) → NumberAt bytes at (Some n) → Lettered bytes at₁ v
       → NumberWritten bytes at (to + 1) mid to₁ after → LetterWritten bytes at₁ to₁ after to₂ last → text y ≡ s ∷ (digits n ++ (letter v ∷ []))
       → Written y to before to₂ last
   sum {bytes} {after} {last} {at} {at₁} {to₁} n v d l h i f = record {

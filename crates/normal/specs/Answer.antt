@@ -1,25 +1,14 @@
--- What `normal` answers: each case's number and count, the rows of refusal that the call has, and what goes with an acceptance.
+-- What `normal` answers: the rows of refusal that the call has, and what goes with an acceptance.
 use Rattle.std.specs.Prelude.{◌≡◌, true, List, [], ◌∷◌, ◌++◌, ℕ, length, drop}
 use Rattle.meaning.specs.Rule.{Kind, Rule, Opens, text}
 use Rattle.meaning.specs.Normal.{normal_rule}
 use Rattle.meaning.specs.Refusal.{Row, ◌when◌, Answered, TooShort, no_count}
-use Rattle.refusal.specs.Number.{number_of}
 use Rattle.theory.specs.declared.Counts.{Counts}
 use Rattle.rule.specs.Outcome.{Spelled, With, rule_rows}
-use Rattle.normal.specs.declared.NormalAnswer.{NormalAnswer}
 
 -- the bytes of the normal form
 abbrev pub normal_text : Rule → List ℕ
 normal_text r = text (normal_rule r)
-
--- each case's number of refusal, 0 where there is none, and its count: "A refusal has .. count 0"
-abbrev pub number_given : NormalAnswer → ℕ
-number_given (NormalAnswer.Refused why) = number_of why
-number_given (NormalAnswer.Written n) = 0
-
-abbrev pub count_given : NormalAnswer → ℕ
-count_given (NormalAnswer.Refused why) = no_count
-count_given (NormalAnswer.Written n) = n
 
 -- the rows of a call that reads a rule, and "the lent output is shorter than the normal form"
 abbrev pub output_rows : Kind → List ℕ → ℕ → List {1} Row

@@ -1,11 +1,11 @@
 -- Within the call: what its steps ask and promise of the whole text and of the output.
-use Rattle.std.specs.Prelude.{◌≡◌, List, [], ℕ, ◌≤◌, length}
+use Rattle.std.specs.Prelude.{◌≡◌, Result, Ok, Err, List, [], ℕ, ◌≤◌, length}
 use Rattle.std.proofs.lemmas.List.Edits.{sets}
 use Rattle.meaning.specs.Limits.{text_limit}
 use Rattle.meaning.specs.Rule.{Kind, Rule, Opens}
 use Rattle.meaning.specs.Refusal.{TooShort}
 use Rattle.refusal.specs.Number.{number_of}
-use Rattle.normal.specs.declared.NormalAnswer.{NormalAnswer}
+use Rattle.refusal.specs.declared.Refusal.{Refusal}
 use Rattle.normal.specs.Place.{Marked}
 use Rattle.normal.specs.Answer.{normal_text}
 
@@ -26,9 +26,9 @@ pub record RuleWritten (kind : Kind) (bytes before : List ℕ) (count : ℕ) (af
   pub written : (r : Rule) → Opens kind bytes r [] → after ≡ sets before 0 (normal_text r)
 
 -- the output is too short for the rule's normal form, and keeps its bytes; or it is written there
-abbrev pub ByRoom : Rule → List ℕ → NormalAnswer → List ℕ → Type 0
-ByRoom r before (NormalAnswer.Refused why) after = (number_of why ≡ 12) × TooShort (length before) (length (normal_text r)) × (after ≡ before)
-ByRoom r before (NormalAnswer.Written n) after = (n ≡ length (normal_text r)) × (n ≤ length before) × (after ≡ sets before 0 (normal_text r))
+abbrev pub ByRoom : Rule → List ℕ → Result ℕ Refusal → List ℕ → Type 0
+ByRoom r before (Err why) after = (number_of why ≡ 12) × TooShort (length before) (length (normal_text r)) × (after ≡ before)
+ByRoom r before (Ok n) after = (n ≡ length (normal_text r)) × (n ≤ length before) × (after ≡ sets before 0 (normal_text r))
 
-pub record WrittenOut (kind : Kind) (bytes before : List ℕ) (answer : NormalAnswer) (after : List ℕ) : Type 0 where
+pub record WrittenOut (kind : Kind) (bytes before : List ℕ) (answer : Result ℕ Refusal) (after : List ℕ) : Type 0 where
   pub each : (r : Rule) → Opens kind bytes r [] → ByRoom r before answer after

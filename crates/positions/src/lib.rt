@@ -130,7 +130,7 @@ impl PositionSet {
         ones as usize
     }
 
-    // The first position, and PLACES where there is none.
+    // The first position, and PLACES where there is none: the number that the answer of `reach` has there, and no Option.
     pub fn earliest(self) -> usize
         ensures { result ≡ earliest_of (holds self) }
     {

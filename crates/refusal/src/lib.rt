@@ -3,7 +3,7 @@
 ghost use Rattle.std.specs.Prelude.{◌≡◌};
 ghost use Rattle.refusal.specs.Number.{number_of};
 
-#[derive(Clone, Copy)]
+#[derive(Clone, Copy, Debug, PartialEq, Eq)]
 pub enum Refusal {
     SheetTooLong,
     BadLine,
@@ -21,22 +21,24 @@ pub enum Refusal {
 }
 
 // The number that the table gives this refusal.
-pub fn number(r: Refusal) -> u8
-    ensures { result ≡ number_of r }
-{
-    match r {
-        Refusal::SheetTooLong => 1,
-        Refusal::BadLine => 2,
-        Refusal::BadNumber => 3,
-        Refusal::LacksFluent => 4,
-        Refusal::BadLog => 5,
-        Refusal::BadRule => 6,
-        Refusal::LacksName => 7,
-        Refusal::TooDeep => 8,
-        Refusal::BackwardJob => 9,
-        Refusal::BadPosition => 10,
-        Refusal::NoFinish => 11,
-        Refusal::ShortOutput => 12,
-        Refusal::Unbound => 13,
+impl From<Refusal> for u8 {
+    ghost from_gives = { λ r n. n ≡ number_of r };
+
+    fn from(r: Refusal) -> u8 {
+        match r {
+            Refusal::SheetTooLong => 1,
+            Refusal::BadLine => 2,
+            Refusal::BadNumber => 3,
+            Refusal::LacksFluent => 4,
+            Refusal::BadLog => 5,
+            Refusal::BadRule => 6,
+            Refusal::LacksName => 7,
+            Refusal::TooDeep => 8,
+            Refusal::BackwardJob => 9,
+            Refusal::BadPosition => 10,
+            Refusal::NoFinish => 11,
+            Refusal::ShortOutput => 12,
+            Refusal::Unbound => 13,
+        }
     }
 }

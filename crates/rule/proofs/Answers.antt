@@ -1,35 +1,30 @@
 -- Laws of what the readers answer, sign by sign, on lists of bytes. Rests on the readers of `Reading`; no code.
 use mathlib.Core.Path.{◌≡◌, refl, sym, ap, ap₂, subst, subst⁻¹, ◌∙◌}
-use mathlib.Core.Logic.{◌↔◌}
 use mathlib.Core.Bool.{Bool, true, false}
 use mathlib.Core.List.{List, [], ◌++◌}
 use Prim.Native.Nat.{ℕ, ◌+◌, ◌-◌, ◌≤◌, ◌<◌}
 use native.Mathlib.Omega.{arith}
 use lib.ListN.{length, drop, get_or, length-drop, length-append, drop_of_length-le}
 use borrow.Author.Tests.{ne_eqb}
+use Rattle.std.specs.Prelude.{Option, Some, None}
 use Rattle.laws.specs.Bit.{gather}
 use Rattle.meaning.specs.Limits.{text_limit, domain_limit}
 use Rattle.meaning.specs.Rule.{Walk, Test, Variable, plain, plus, act, undo, next, prev, seq, alt, star, check, conv, pick, always, fluent, neg, both, diamond, exists}
-use Rattle.meaning.specs.Rule.{walk_text, test_text, walk_depth, test_depth, walk_names, test_names, backward, walk_free, test_free, walk_varies, test_varies, Kind, test_kind, walk_kind, job_kind, Rule, of_test, of_walk, text, depth, Opens}
+use Rattle.meaning.specs.Rule.{walk_text, test_text, walk_depth, test_depth, walk_names, test_names, backward, walk_free, test_free, walk_varies, test_varies, Kind, test_kind, walk_kind, Rule, of_test, of_walk, text, depth}
 use Rattle.meaning.proofs.Reading.Shapes.{Got, got, bad, Reader, onward, Shape, read_by, read_number, read_variable, none, number_sound, number_complete}
 use Rattle.meaning.proofs.Reading.{walk_read, test_read, rule_read, walk_sign, test_sign, walk_none, test_none, walk_step, test_step, walk_sound, test_sound, read_of_opens, opens_of_read, none_of_bad}
 use Rattle.rule.specs.declared.answer.Facts.{Facts}
-use Rattle.rule.specs.declared.answer.Read.{Read}
 use Rattle.grammar.specs.declared.signs.Sign.{Sign}
 use Rattle.grammar.specs.declared.signs.Sign.TheVariants.{Step, NamedStep, OverWalk, OverTest, TwoWalks, Constant, NamedFluent, Denial, TwoTests, WalkThenTest, SumStep, SomeWalk, SumFluent, SomeTest, Stranger}
 use Rattle.grammar.specs.Signs.{sign_table, sign_meant, turns_back}
-use Rattle.spelling.specs.declared.Digits.{Digits}
-use Rattle.spelling.specs.declared.Digits.TheVariants.{Number, Other}
 use Rattle.spelling.specs.Scan.{NumberAt}
 use Rattle.spelling.proofs.TwoDigits.{here}
-use Rattle.grammar.specs.declared.letters.Letter.{Letter}
 use Rattle.grammar.specs.Letters.{place, LetterAt}
-use Rattle.rule.specs.Facts.{facts_of, depth_in, end_in, NamedWithin, PlaceWithin, LetterWithin, leaf_of, step_of, fluent_of, lettered_of, above_of, bound_of, beside_of, inside_of}
+use Rattle.rule.specs.Facts.{facts_of, depth_in, PlaceWithin, leaf_of, step_of, fluent_of, lettered_of, above_of, bound_of, beside_of, inside_of}
 use Rattle.rule.specs.Read.{ReadAt}
 use Rattle.grammar.proofs.Lettering.{place_low}
 use Rattle.rule.proofs.Variables.{letter_read, letter_unread, alone, joined, taken_off}
 use Rattle.grammar.proofs.Numbers.{after_part_law}
-use Rattle.rule.proofs.Named.{named_within}
 use Rattle.grammar.proofs.SignTable.{
   Strange,
   SignIs,
@@ -56,22 +51,10 @@ use Rattle.grammar.proofs.SignTable.{
   no_sign,
 }
 
--- a job is read as a walk is
-job_opens : (bytes : List ℕ) (r : Rule) (rest : List ℕ) → Opens walk_kind bytes r rest ↔ Opens job_kind bytes r rest
-job_opens bytes (of_test t) rest = (λ o. absurd o.fits, λ o. absurd o.fits)
-job_opens bytes (of_walk w) rest = (
-  λ o. record { fits = tt; spells = o.spells; short_actions = o.short_actions; short_fluents = o.short_fluents },
-  λ o. record { fits = tt; spells = o.spells; short_actions = o.short_actions; short_fluents = o.short_fluents },
-)
-
-pub job_read : (domain : ℕ) (bytes : List ℕ) (at : ℕ) (r : Read) → ReadAt walk_kind domain bytes at r → ReadAt job_kind domain bytes at r
-job_read domain bytes at Read.Refused h = λ r rest o. h r rest ((job_opens (drop at bytes) r rest).1 o)
-job_read domain bytes at (Read.Found f) (r, rest, o, e) = (r, rest, (job_opens (drop at bytes) r rest).0 o, e)
-
 -- The answer that goes with what a reader of lists finds.
-abbrev answer : {A : Type 0} → (A → Rule) → ℕ → ℕ → Got A → Read
-answer of domain at bad = Read.Refused
-answer of domain at (got a rest) = Read.Found (facts_of domain (at + length (text (of a))) (of a))
+abbrev answer : {A : Type 0} → (A → Rule) → ℕ → ℕ → Got A → Option Facts
+answer of domain at bad = None
+answer of domain at (got a rest) = Some (facts_of domain (at + length (text (of a))) (of a))
 
 answer_for : {A : Type 0} (of : A → Rule) (domain at : ℕ) (g : Got A) → answer (λ (r : Rule). r) domain at (onward g (λ a rest. got (of a) rest)) ≡ answer of domain at g
 answer_for of domain at (got a rest) = refl
@@ -85,28 +68,28 @@ answer_meets kind domain bytes at = go (rule_read kind (drop at bytes)) refl
     go (got r rest) e = (r, rest, opens_of_read kind (drop at bytes) r rest e, refl)
     go bad e = none_of_bad kind (drop at bytes) e
 
-answer_only : (kind : Kind) (domain : ℕ) (bytes : List ℕ) (at : ℕ) (r : Read) → ReadAt kind domain bytes at r → r ≡ answer (λ (r : Rule). r) domain at (rule_read kind (drop at bytes))
-answer_only kind domain bytes at Read.Refused h = go (rule_read kind (drop at bytes)) refl
+answer_only : (kind : Kind) (domain : ℕ) (bytes : List ℕ) (at : ℕ) (r : Option Facts) → ReadAt kind domain bytes at r → r ≡ answer (λ (r : Rule). r) domain at (rule_read kind (drop at bytes))
+answer_only kind domain bytes at None h = go (rule_read kind (drop at bytes)) refl
   where
-    go : (g : Got Rule) → rule_read kind (drop at bytes) ≡ g → Read.Refused ≡ answer (λ (r : Rule). r) domain at g
+    go : (g : Got Rule) → rule_read kind (drop at bytes) ≡ g → None ≡ answer (λ (r : Rule). r) domain at g
     go (got r rest) e = absurd (h r rest (opens_of_read kind (drop at bytes) r rest e))
     go bad e = refl
-answer_only kind domain bytes at (Read.Found f) h =
+answer_only kind domain bytes at (Some f) h =
     let (r, rest, o, e) = h in
-    ap Read.Found e ∙ ap (answer (λ (r : Rule). r) domain at) (sym (read_of_opens kind (drop at bytes) r rest o))
+    ap Some e ∙ ap (answer (λ (r : Rule). r) domain at) (sym (read_of_opens kind (drop at bytes) r rest o))
 
 -- the same for one of the two readers
-walk_is : (domain : ℕ) (bytes : List ℕ) (at : ℕ) (r : Read) → ReadAt walk_kind domain bytes at r → r ≡ answer of_walk domain at (walk_read (drop at bytes))
+walk_is : (domain : ℕ) (bytes : List ℕ) (at : ℕ) (r : Option Facts) → ReadAt walk_kind domain bytes at r → r ≡ answer of_walk domain at (walk_read (drop at bytes))
 walk_is domain bytes at r h = answer_only walk_kind domain bytes at r h ∙ answer_for of_walk domain at (walk_read (drop at bytes))
 
-test_is : (domain : ℕ) (bytes : List ℕ) (at : ℕ) (r : Read) → ReadAt test_kind domain bytes at r → r ≡ answer of_test domain at (test_read (drop at bytes))
+test_is : (domain : ℕ) (bytes : List ℕ) (at : ℕ) (r : Option Facts) → ReadAt test_kind domain bytes at r → r ≡ answer of_test domain at (test_read (drop at bytes))
 test_is domain bytes at r h = answer_only test_kind domain bytes at r h ∙ answer_for of_test domain at (test_read (drop at bytes))
 
-walk_meets : (domain : ℕ) (bytes : List ℕ) (at : ℕ) (g : Got Walk) → walk_read (drop at bytes) ≡ g → (r : Read) → r ≡ answer of_walk domain at g → ReadAt walk_kind domain bytes at r
+walk_meets : (domain : ℕ) (bytes : List ℕ) (at : ℕ) (g : Got Walk) → walk_read (drop at bytes) ≡ g → (r : Option Facts) → r ≡ answer of_walk domain at g → ReadAt walk_kind domain bytes at r
 walk_meets domain bytes at g p r q =
     subst (ReadAt walk_kind domain bytes at) (answer_for of_walk domain at (walk_read (drop at bytes)) ∙ ap (answer of_walk domain at) p ∙ sym q) (answer_meets walk_kind domain bytes at)
 
-test_meets : (domain : ℕ) (bytes : List ℕ) (at : ℕ) (g : Got Test) → test_read (drop at bytes) ≡ g → (r : Read) → r ≡ answer of_test domain at g → ReadAt test_kind domain bytes at r
+test_meets : (domain : ℕ) (bytes : List ℕ) (at : ℕ) (g : Got Test) → test_read (drop at bytes) ≡ g → (r : Option Facts) → r ≡ answer of_test domain at g → ReadAt test_kind domain bytes at r
 test_meets domain bytes at g p r q =
     subst (ReadAt test_kind domain bytes at) (answer_for of_test domain at (test_read (drop at bytes)) ∙ ap (answer of_test domain at) p ∙ sym q) (answer_meets test_kind domain bytes at)
 
@@ -124,37 +107,37 @@ above_answer : {A B : Type 0} (of : A → Rule) (whole : A → B) (of' : B → R
 above_answer of whole of' domain at turn same (got a rest) = same a
 above_answer of whole of' domain at turn same bad = refl
 
-number_answer : {B : Type 0} (whole : ℕ → B) (of' : B → Rule) (domain : ℕ) (bytes : List ℕ) (at : ℕ) (made : Digits → Read)
-    → made Other ≡ Read.Refused → ((n : ℕ) → made (Number n) ≡ answer of' domain at (got (whole n) []))
-    → (n : Digits) → NumberAt bytes (at + 1) n → made n ≡ answer of' domain at (onward (read_number (drop (at + 1) bytes)) (λ k rest. got (whole k) rest))
-number_answer whole of' domain bytes at made empty same (Number n) h =
+number_answer : {B : Type 0} (whole : ℕ → B) (of' : B → Rule) (domain : ℕ) (bytes : List ℕ) (at : ℕ) (made : Option ℕ → Option Facts)
+    → made None ≡ None → ((n : ℕ) → made (Some n) ≡ answer of' domain at (got (whole n) []))
+    → (n : Option ℕ) → NumberAt bytes (at + 1) n → made n ≡ answer of' domain at (onward (read_number (drop (at + 1) bytes)) (λ k rest. got (whole k) rest))
+number_answer whole of' domain bytes at made empty same (Some n) h =
     same n ∙ ap (λ (g : Got ℕ). answer of' domain at (onward g (λ k rest. got (whole k) rest))) (sym (ap read_number h.1 ∙ number_complete n (drop (at + 1 + 2) bytes) h.0))
-number_answer whole of' domain bytes at made empty same Other h = go (read_number (drop (at + 1) bytes)) refl
+number_answer whole of' domain bytes at made empty same None h = go (read_number (drop (at + 1) bytes)) refl
   where
-    go : (g : Got ℕ) → read_number (drop (at + 1) bytes) ≡ g → made Other ≡ answer of' domain at (onward g (λ k rest. got (whole k) rest))
+    go : (g : Got ℕ) → read_number (drop (at + 1) bytes) ≡ g → made None ≡ answer of' domain at (onward g (λ k rest. got (whole k) rest))
     go (got n rest) e = let (s, b) = number_sound (drop (at + 1) bytes) n rest e in absurd (h n rest b s)
     go bad e = empty
 
 -- a number with a letter behind it
-module _ {B : Type 0} (whole : ℕ → Variable → B) (of' : B → Rule) (domain : ℕ) (bytes : List ℕ) (at : ℕ) (made : Digits → Read) where
+module _ {B : Type 0} (whole : ℕ → Variable → B) (of' : B → Rule) (domain : ℕ) (bytes : List ℕ) (at : ℕ) (made : Option ℕ → Option Facts) where
   abbrev after_number : Got ℕ → Got B
   after_number g = onward g (λ k rest. onward (read_variable rest) (λ v end. got (whole k v) end))
 
   abbrev after_letter : ℕ → Got Variable → Got B
   after_letter k g = onward g (λ v end. got (whole k v) end)
 
-  sum_answer : made Other ≡ Read.Refused → ((n : ℕ) (v : Variable) → lettered_of (made (Number n)) (Letter.Place (place v)) ≡ answer of' domain at (got (whole n v) []))
-      → (n : Digits) (l : Letter) → NumberAt bytes (at + 1) n → LetterAt bytes (at + 3) l → lettered_of (made n) l ≡ answer of' domain at (after_number (read_number (drop (at + 1) bytes)))
-  sum_answer empty same Other l h i = none l ∙ go (read_number (drop (at + 1) bytes)) refl
+  sum_answer : made None ≡ None → ((n : ℕ) (v : Variable) → lettered_of (made (Some n)) (Some (place v)) ≡ answer of' domain at (got (whole n v) []))
+      → (n : Option ℕ) (l : Option ℕ) → NumberAt bytes (at + 1) n → LetterAt bytes (at + 3) l → lettered_of (made n) l ≡ answer of' domain at (after_number (read_number (drop (at + 1) bytes)))
+  sum_answer empty same None l h i = none l ∙ go (read_number (drop (at + 1) bytes)) refl
     where
-      none : (l : Letter) → lettered_of (made Other) l ≡ Read.Refused
-      none Letter.Other = refl
-      none (Letter.Place k) = ap (λ (x : Read). lettered_of x (Letter.Place k)) empty
+      none : (l : Option ℕ) → lettered_of (made None) l ≡ None
+      none None = refl
+      none (Some k) = ap (λ (x : Option Facts). lettered_of x (Some k)) empty
 
-      go : (g : Got ℕ) → read_number (drop (at + 1) bytes) ≡ g → Read.Refused ≡ answer of' domain at (after_number g)
+      go : (g : Got ℕ) → read_number (drop (at + 1) bytes) ≡ g → None ≡ answer of' domain at (after_number g)
       go (got n rest) e = let (s, b) = number_sound (drop (at + 1) bytes) n rest e in absurd (h n rest b s)
       go bad e = refl
-  sum_answer empty same (Number n) l h i = go l i ∙ ap (λ (g : Got ℕ). answer of' domain at (after_number g)) (sym numbered)
+  sum_answer empty same (Some n) l h i = go l i ∙ ap (λ (g : Got ℕ). answer of' domain at (after_number g)) (sym numbered)
     where
       there : at + 1 + 2 ≡ at + 3
       there = omega arith
@@ -162,10 +145,10 @@ module _ {B : Type 0} (whole : ℕ → Variable → B) (of' : B → Rule) (domai
       numbered : read_number (drop (at + 1) bytes) ≡ got n (drop (at + 3) bytes)
       numbered = ap read_number h.1 ∙ number_complete n (drop (at + 1 + 2) bytes) h.0 ∙ ap (λ (k : ℕ). got n (drop k bytes)) there
 
-      go : (l : Letter) → LetterAt bytes (at + 3) l → lettered_of (made (Number n)) l ≡ answer of' domain at (after_letter n (read_variable (drop (at + 3) bytes)))
-      go Letter.Other i = ap (λ (g : Got Variable). answer of' domain at (after_letter n g)) (sym (letter_unread bytes (at + 3) i))
-      go (Letter.Place k) (v, e, found) =
-          ap (λ (x : ℕ). lettered_of (made (Number n)) (Letter.Place x)) e
+      go : (l : Option ℕ) → LetterAt bytes (at + 3) l → lettered_of (made (Some n)) l ≡ answer of' domain at (after_letter n (read_variable (drop (at + 3) bytes)))
+      go None i = ap (λ (g : Got Variable). answer of' domain at (after_letter n g)) (sym (letter_unread bytes (at + 3) i))
+      go (Some k) (v, e, found) =
+          ap (λ (x : ℕ). lettered_of (made (Some n)) (Some x)) e
           ∙ same n v
           ∙ ap (λ (g : Got Variable). answer of' domain at (after_letter n g)) (sym (letter_read bytes (at + 3) v found))
 
@@ -177,12 +160,12 @@ module _ {A B : Type 0} (of : A → Rule) (whole : Variable → A → B) (of' : 
   abbrev after_binder : Got Variable → Got B
   after_binder g = onward g (λ v rest. after_part v (ra rest))
 
-  bound_answer : ((v : Variable) (a : A) → bound_of (Letter.Place (place v)) (answer of domain (at + 2) (got a [])) ≡ answer of' domain at (got (whole v a) []))
-      → (l : Letter) → LetterAt bytes (at + 1) l
+  bound_answer : ((v : Variable) (a : A) → bound_of (Some (place v)) (answer of domain (at + 2) (got a [])) ≡ answer of' domain at (got (whole v a) []))
+      → (l : Option ℕ) → LetterAt bytes (at + 1) l
       → bound_of l (answer of domain (at + 2) (ra (drop (at + 2) bytes))) ≡ answer of' domain at (after_binder (read_variable (drop (at + 1) bytes)))
-  bound_answer same Letter.Other i = ap (λ (g : Got Variable). answer of' domain at (after_binder g)) (sym (letter_unread bytes (at + 1) i))
-  bound_answer same (Letter.Place k) (v, e, found) =
-      ap (λ (x : ℕ). bound_of (Letter.Place x) (answer of domain (at + 2) (ra (drop (at + 2) bytes)))) e
+  bound_answer same None i = ap (λ (g : Got Variable). answer of' domain at (after_binder g)) (sym (letter_unread bytes (at + 1) i))
+  bound_answer same (Some k) (v, e, found) =
+      ap (λ (x : ℕ). bound_of (Some x) (answer of domain (at + 2) (ra (drop (at + 2) bytes)))) e
       ∙ go (ra (drop (at + 2) bytes))
       ∙ ap (λ (j : ℕ). answer of' domain at (after_part v (ra (drop j bytes)))) there
       ∙ ap (λ (g : Got Variable). answer of' domain at (after_binder g)) (sym (letter_read bytes (at + 1) v found))
@@ -190,16 +173,16 @@ module _ {A B : Type 0} (of : A → Rule) (whole : Variable → A → B) (of' : 
       there : at + 2 ≡ at + 1 + 1
       there = omega arith
 
-      go : (g : Got A) → bound_of (Letter.Place (place v)) (answer of domain (at + 2) g) ≡ answer of' domain at (after_part v g)
+      go : (g : Got A) → bound_of (Some (place v)) (answer of domain (at + 2) g) ≡ answer of' domain at (after_part v g)
       go (got a rest) = same v a
       go bad = refl
 
-refused≢found : (f : Facts) → Read.Refused ≡ Read.Found f → ⊥
+refused≢found : (f : Facts) → None ≡ Some f → ⊥
 refused≢found f e = let z : ◌≡◌ {A = ℕ} 0 1 = cc in omega arith
 
 -- no first part
 first_refused : {A B : Type 0} (of : A → Rule) (of' : B → Rule) (domain at : ℕ) (go_on : A → List ℕ → Got B) (g : Got A)
-    → Read.Refused ≡ answer of domain (at + 1) g → Read.Refused ≡ answer of' domain at (onward g go_on)
+    → None ≡ answer of domain (at + 1) g → None ≡ answer of' domain at (onward g go_on)
 first_refused of of' domain at go_on (got a rest) e = absurd (refused≢found _ e)
 first_refused of of' domain at go_on bad e = refl
 
@@ -216,13 +199,13 @@ module _ {A B C : Type 0} (of : A → Rule) (of' : B → Rule) (whole : A → B 
   second_answer same a bad = refl
 
   pair_answer : Joined → (rb : Reader B) (bytes : List ℕ) (g : Got A) → ((a : A) (rest : List ℕ) → g ≡ got a rest → drop (at + 1) bytes ≡ text (of a) ++ rest)
-      → (f : Facts) (r : Read) → Read.Found f ≡ answer of domain (at + 1) g → r ≡ answer of' domain f.end (rb (drop f.end bytes))
+      → (f : Facts) (r : Option Facts) → Some f ≡ answer of domain (at + 1) g → r ≡ answer of' domain f.end (rb (drop f.end bytes))
       → beside_of (shelter f) r ≡ answer of'' domain at (onward g (λ a rest. onward (rb rest) (λ b end. got (whole a b) end)))
   pair_answer same rb bytes (got a rest) sound f r p q =
       let f-is : f ≡ told a = cc in
       let left = after_part_law bytes (text (of a)) rest (at + 1) (sound a rest refl) in
       let r-is = q ∙ ap (λ (x : Facts). answer of' domain x.end (rb (drop x.end bytes))) f-is ∙ ap (λ (l : List ℕ). answer of' domain (told a).end (rb l)) left in
-      ap₂ (λ (x : Facts) (y : Read). beside_of (shelter x) y) f-is r-is ∙ second_answer same a (rb rest)
+      ap₂ (λ (x : Facts) (y : Option Facts). beside_of (shelter x) y) f-is r-is ∙ second_answer same a (rb rest)
   pair_answer same rb bytes bad sound f r p q = absurd (refused≢found f (sym p))
 
 -- a byte that is no sign of a walk, or of a test
@@ -351,90 +334,90 @@ unread_as_test (no_sign b s) n = no_test_sign b s
 
 -- The signs, one by one.
 one_more : {end end' depth depth' actions fluents free free' : ℕ} {turn varies : Bool} → end ≡ end' → depth ≡ depth' → free ≡ free'
-    → ◌≡◌ {A = Read} (Read.Found (record { end = end; depth = depth; actions = actions; fluents = fluents; backward = turn; free = free; varies = varies }))
-    (Read.Found (record { end = end'; depth = depth'; actions = actions; fluents = fluents; backward = turn; free = free'; varies = varies }))
+    → ◌≡◌ {A = Option Facts} (Some (record { end = end; depth = depth; actions = actions; fluents = fluents; backward = turn; free = free; varies = varies }))
+    (Some (record { end = end'; depth = depth'; actions = actions; fluents = fluents; backward = turn; free = free'; varies = varies }))
 one_more {actions = a} {fluents = f} {turn = b} {varies = v} e d s =
-    λ i. Read.Found (record { end = e i; depth = d i; actions = a; fluents = f; backward = b; free = s i; varies = v })
+    λ i. Some (record { end = e i; depth = d i; actions = a; fluents = f; backward = b; free = s i; varies = v })
 
 module _ (domain : ℕ) (bytes : List ℕ) (at : ℕ) where
-  pub walk_ends : length bytes ≤ at → ReadAt walk_kind domain bytes at Read.Refused
-  walk_ends h = walk_meets domain bytes at bad (ap walk_read (drop_of_length-le bytes h) ∙ walk_none) Read.Refused refl
+  pub walk_ends : length bytes ≤ at → ReadAt walk_kind domain bytes at None
+  walk_ends h = walk_meets domain bytes at bad (ap walk_read (drop_of_length-le bytes h) ∙ walk_none) None refl
 
-  pub test_ends : length bytes ≤ at → ReadAt test_kind domain bytes at Read.Refused
-  test_ends h = test_meets domain bytes at bad (ap test_read (drop_of_length-le bytes h) ∙ test_none) Read.Refused refl
+  pub test_ends : length bytes ≤ at → ReadAt test_kind domain bytes at None
+  test_ends h = test_meets domain bytes at bad (ap test_read (drop_of_length-le bytes h) ∙ test_none) None refl
 
   module _ (h : at < length bytes) where
-    walk_act : get_or bytes at 0 ≡ 97 → (n : Digits) → NumberAt bytes (at + 1) n → ReadAt walk_kind domain bytes at (step_of n 1 (at + 3) false)
+    walk_act : get_or bytes at 0 ≡ 97 → (n : Option ℕ) → NumberAt bytes (at + 1) n → ReadAt walk_kind domain bytes at (step_of n 1 (at + 3) false)
     unfolding walk_text walk_depth walk_names backward walk_free walk_varies gather
     walk_act e n p =
         walk_meets domain bytes at _ (walk_at bytes at 97 h e) (step_of n 1 (at + 3) false)
-        (number_answer (λ a. act (plain a)) of_walk domain bytes at (λ (x : Digits). step_of x 1 (at + 3) false) refl (λ k. refl) n p)
+        (number_answer (λ a. act (plain a)) of_walk domain bytes at (λ (x : Option ℕ). step_of x 1 (at + 3) false) refl (λ k. refl) n p)
 
-    walk_undo : get_or bytes at 0 ≡ 114 → (n : Digits) → NumberAt bytes (at + 1) n → ReadAt walk_kind domain bytes at (step_of n 1 (at + 3) true)
+    walk_undo : get_or bytes at 0 ≡ 114 → (n : Option ℕ) → NumberAt bytes (at + 1) n → ReadAt walk_kind domain bytes at (step_of n 1 (at + 3) true)
     unfolding walk_text walk_depth walk_names backward walk_free walk_varies gather
     walk_undo e n p =
         walk_meets domain bytes at _ (walk_at bytes at 114 h e) (step_of n 1 (at + 3) true)
-        (number_answer (λ a. undo (plain a)) of_walk domain bytes at (λ (x : Digits). step_of x 1 (at + 3) true) refl (λ k. refl) n p)
+        (number_answer (λ a. undo (plain a)) of_walk domain bytes at (λ (x : Option ℕ). step_of x 1 (at + 3) true) refl (λ k. refl) n p)
 
-    walk_next : get_or bytes at 0 ≡ 110 → ReadAt walk_kind domain bytes at (leaf_of (at + 1) false)
+    walk_next : get_or bytes at 0 ≡ 110 → ReadAt walk_kind domain bytes at (Some (leaf_of (at + 1) false))
     unfolding walk_text walk_depth walk_names backward walk_free walk_varies gather
-    walk_next e = walk_meets domain bytes at _ (walk_at bytes at 110 h e) (leaf_of (at + 1) false) refl
+    walk_next e = walk_meets domain bytes at _ (walk_at bytes at 110 h e) (Some (leaf_of (at + 1) false)) refl
 
-    walk_prev : get_or bytes at 0 ≡ 117 → ReadAt walk_kind domain bytes at (leaf_of (at + 1) true)
+    walk_prev : get_or bytes at 0 ≡ 117 → ReadAt walk_kind domain bytes at (Some (leaf_of (at + 1) true))
     unfolding walk_text walk_depth walk_names backward walk_free walk_varies gather
-    walk_prev e = walk_meets domain bytes at _ (walk_at bytes at 117 h e) (leaf_of (at + 1) true) refl
+    walk_prev e = walk_meets domain bytes at _ (walk_at bytes at 117 h e) (Some (leaf_of (at + 1) true)) refl
 
-    walk_star : get_or bytes at 0 ≡ 42 → (p : Read) → ReadAt walk_kind domain bytes (at + 1) p → ReadAt walk_kind domain bytes at (above_of p false)
+    walk_star : get_or bytes at 0 ≡ 42 → (p : Option Facts) → ReadAt walk_kind domain bytes (at + 1) p → ReadAt walk_kind domain bytes at (above_of p false)
     unfolding walk_text walk_depth walk_names backward walk_free walk_varies gather
     walk_star e p q =
         walk_meets domain bytes at _ (walk_at bytes at 42 h e) (above_of p false)
-        (ap (λ (x : Read). above_of x false) (walk_is domain bytes (at + 1) p q) ∙ above_answer of_walk star of_walk domain at false (λ a. one_more (omega arith) (omega arith) refl) (walk_read (drop (at + 1) bytes)))
+        (ap (λ (x : Option Facts). above_of x false) (walk_is domain bytes (at + 1) p q) ∙ above_answer of_walk star of_walk domain at false (λ a. one_more (omega arith) (omega arith) refl) (walk_read (drop (at + 1) bytes)))
 
-    walk_check : get_or bytes at 0 ≡ 63 → (p : Read) → ReadAt test_kind domain bytes (at + 1) p → ReadAt walk_kind domain bytes at (above_of p false)
+    walk_check : get_or bytes at 0 ≡ 63 → (p : Option Facts) → ReadAt test_kind domain bytes (at + 1) p → ReadAt walk_kind domain bytes at (above_of p false)
     unfolding walk_text walk_depth walk_names backward walk_free walk_varies gather
     walk_check e p q =
         walk_meets domain bytes at _ (walk_at bytes at 63 h e) (above_of p false)
-        (ap (λ (x : Read). above_of x false) (test_is domain bytes (at + 1) p q) ∙ above_answer of_test check of_walk domain at false (λ a. one_more (omega arith) (omega arith) refl) (test_read (drop (at + 1) bytes)))
+        (ap (λ (x : Option Facts). above_of x false) (test_is domain bytes (at + 1) p q) ∙ above_answer of_test check of_walk domain at false (λ a. one_more (omega arith) (omega arith) refl) (test_read (drop (at + 1) bytes)))
 
-    walk_conv : get_or bytes at 0 ≡ 45 → (p : Read) → ReadAt walk_kind domain bytes (at + 1) p → ReadAt walk_kind domain bytes at (above_of p true)
+    walk_conv : get_or bytes at 0 ≡ 45 → (p : Option Facts) → ReadAt walk_kind domain bytes (at + 1) p → ReadAt walk_kind domain bytes at (above_of p true)
     unfolding walk_text walk_depth walk_names backward walk_free walk_varies gather
     walk_conv e p q =
         walk_meets domain bytes at _ (walk_at bytes at 45 h e) (above_of p true)
-        (ap (λ (x : Read). above_of x true) (walk_is domain bytes (at + 1) p q) ∙ above_answer of_walk conv of_walk domain at true (λ a. one_more (omega arith) (omega arith) refl) (walk_read (drop (at + 1) bytes)))
+        (ap (λ (x : Option Facts). above_of x true) (walk_is domain bytes (at + 1) p q) ∙ above_answer of_walk conv of_walk domain at true (λ a. one_more (omega arith) (omega arith) refl) (walk_read (drop (at + 1) bytes)))
 
-    walk_seq : get_or bytes at 0 ≡ 59 → (f : Facts) (r : Read) → ReadAt walk_kind domain bytes (at + 1) (Read.Found f) → ReadAt walk_kind domain bytes f.end r → ReadAt walk_kind domain bytes at (beside_of f r)
+    walk_seq : get_or bytes at 0 ≡ 59 → (f : Facts) (r : Option Facts) → ReadAt walk_kind domain bytes (at + 1) (Some f) → ReadAt walk_kind domain bytes f.end r → ReadAt walk_kind domain bytes at (beside_of f r)
     unfolding walk_text walk_depth walk_names backward walk_free walk_varies gather
     walk_seq e f r p q =
         walk_meets domain bytes at _ (walk_at bytes at 59 h e) (beside_of f r)
         (pair_answer of_walk of_walk seq of_walk (λ (x : Facts). x) domain at (λ v w. one_more (rw length-append (omega arith)) (omega arith) (joined (λ u. walk_free u v) (λ u. walk_free u w))) walk_read bytes (walk_read (drop (at + 1) bytes))
-        (λ w rest s. (walk_sound (drop (at + 1) bytes) w rest s).0) f r (walk_is domain bytes (at + 1) (Read.Found f) p) (walk_is domain bytes f.end r q))
+        (λ w rest s. (walk_sound (drop (at + 1) bytes) w rest s).0) f r (walk_is domain bytes (at + 1) (Some f) p) (walk_is domain bytes f.end r q))
 
-    walk_alt : get_or bytes at 0 ≡ 124 → (f : Facts) (r : Read) → ReadAt walk_kind domain bytes (at + 1) (Read.Found f) → ReadAt walk_kind domain bytes f.end r → ReadAt walk_kind domain bytes at (beside_of f r)
+    walk_alt : get_or bytes at 0 ≡ 124 → (f : Facts) (r : Option Facts) → ReadAt walk_kind domain bytes (at + 1) (Some f) → ReadAt walk_kind domain bytes f.end r → ReadAt walk_kind domain bytes at (beside_of f r)
     unfolding walk_text walk_depth walk_names backward walk_free walk_varies gather
     walk_alt e f r p q =
         walk_meets domain bytes at _ (walk_at bytes at 124 h e) (beside_of f r)
         (pair_answer of_walk of_walk alt of_walk (λ (x : Facts). x) domain at (λ v w. one_more (rw length-append (omega arith)) (omega arith) (joined (λ u. walk_free u v) (λ u. walk_free u w))) walk_read bytes (walk_read (drop (at + 1) bytes))
-        (λ w rest s. (walk_sound (drop (at + 1) bytes) w rest s).0) f r (walk_is domain bytes (at + 1) (Read.Found f) p) (walk_is domain bytes f.end r q))
+        (λ w rest s. (walk_sound (drop (at + 1) bytes) w rest s).0) f r (walk_is domain bytes (at + 1) (Some f) p) (walk_is domain bytes f.end r q))
 
     walk_pair_none : (b : ℕ) (go_on : Walk → List ℕ → Got Walk) → walk_read (drop at bytes) ≡ onward (walk_read (drop (at + 1) bytes)) go_on
-        → ReadAt walk_kind domain bytes (at + 1) Read.Refused → ReadAt walk_kind domain bytes at Read.Refused
-    walk_pair_none b go_on e p = walk_meets domain bytes at _ e Read.Refused (first_refused of_walk of_walk domain at go_on (walk_read (drop (at + 1) bytes)) (walk_is domain bytes (at + 1) Read.Refused p))
+        → ReadAt walk_kind domain bytes (at + 1) None → ReadAt walk_kind domain bytes at None
+    walk_pair_none b go_on e p = walk_meets domain bytes at _ e None (first_refused of_walk of_walk domain at go_on (walk_read (drop (at + 1) bytes)) (walk_is domain bytes (at + 1) None p))
 
-    walk_sum_act : get_or bytes at 0 ≡ 98 → (n : Digits) (l : Letter) → NumberAt bytes (at + 1) n → LetterAt bytes (at + 3) l
+    walk_sum_act : get_or bytes at 0 ≡ 98 → (n : Option ℕ) (l : Option ℕ) → NumberAt bytes (at + 1) n → LetterAt bytes (at + 3) l
         → ReadAt walk_kind domain bytes at (lettered_of (step_of n domain (at + 3) false) l)
     unfolding walk_text walk_depth walk_names backward walk_free walk_varies
     walk_sum_act e n l p q =
         walk_meets domain bytes at _ (walk_at bytes at 98 h e) (lettered_of (step_of n domain (at + 3) false) l)
-        (sum_answer (λ a v. act (plus a v)) of_walk domain bytes at (λ (x : Digits). step_of x domain (at + 3) false) refl (λ k v. one_more (omega arith) refl (alone v)) n l p q)
+        (sum_answer (λ a v. act (plus a v)) of_walk domain bytes at (λ (x : Option ℕ). step_of x domain (at + 3) false) refl (λ k v. one_more (omega arith) refl (alone v)) n l p q)
 
-    walk_sum_undo : get_or bytes at 0 ≡ 115 → (n : Digits) (l : Letter) → NumberAt bytes (at + 1) n → LetterAt bytes (at + 3) l
+    walk_sum_undo : get_or bytes at 0 ≡ 115 → (n : Option ℕ) (l : Option ℕ) → NumberAt bytes (at + 1) n → LetterAt bytes (at + 3) l
         → ReadAt walk_kind domain bytes at (lettered_of (step_of n domain (at + 3) true) l)
     unfolding walk_text walk_depth walk_names backward walk_free walk_varies
     walk_sum_undo e n l p q =
         walk_meets domain bytes at _ (walk_at bytes at 115 h e) (lettered_of (step_of n domain (at + 3) true) l)
-        (sum_answer (λ a v. undo (plus a v)) of_walk domain bytes at (λ (x : Digits). step_of x domain (at + 3) true) refl (λ k v. one_more (omega arith) refl (alone v)) n l p q)
+        (sum_answer (λ a v. undo (plus a v)) of_walk domain bytes at (λ (x : Option ℕ). step_of x domain (at + 3) true) refl (λ k v. one_more (omega arith) refl (alone v)) n l p q)
 
-    walk_pick : get_or bytes at 0 ≡ 112 → (l : Letter) (r : Read) → LetterAt bytes (at + 1) l → ReadAt walk_kind domain bytes (at + 2) r
+    walk_pick : get_or bytes at 0 ≡ 112 → (l : Option ℕ) (r : Option Facts) → LetterAt bytes (at + 1) l → ReadAt walk_kind domain bytes (at + 2) r
         → ReadAt walk_kind domain bytes at (bound_of l r)
     unfolding walk_text walk_depth walk_names backward walk_free walk_varies
     walk_pick e l r p q =
@@ -442,45 +425,45 @@ module _ (domain : ℕ) (bytes : List ℕ) (at : ℕ) where
         (ap (bound_of l) (walk_is domain bytes (at + 2) r q)
         ∙ bound_answer of_walk pick of_walk domain bytes at walk_read (λ v w. one_more (omega arith) (omega arith) (taken_off v (λ u. walk_free u w))) l p)
 
-    test_always : get_or bytes at 0 ≡ 49 → ReadAt test_kind domain bytes at (leaf_of (at + 1) false)
+    test_always : get_or bytes at 0 ≡ 49 → ReadAt test_kind domain bytes at (Some (leaf_of (at + 1) false))
     unfolding test_text test_depth test_names test_free test_varies gather
-    test_always e = test_meets domain bytes at _ (test_at bytes at 49 h e) (leaf_of (at + 1) false) refl
+    test_always e = test_meets domain bytes at _ (test_at bytes at 49 h e) (Some (leaf_of (at + 1) false)) refl
 
-    test_fluent : get_or bytes at 0 ≡ 102 → (n : Digits) → NumberAt bytes (at + 1) n → ReadAt test_kind domain bytes at (fluent_of n 1 (at + 3))
+    test_fluent : get_or bytes at 0 ≡ 102 → (n : Option ℕ) → NumberAt bytes (at + 1) n → ReadAt test_kind domain bytes at (fluent_of n 1 (at + 3))
     unfolding test_text test_depth test_names test_free test_varies gather
     test_fluent e n p =
         test_meets domain bytes at _ (test_at bytes at 102 h e) (fluent_of n 1 (at + 3))
-        (number_answer (λ a. fluent (plain a)) of_test domain bytes at (λ (x : Digits). fluent_of x 1 (at + 3)) refl (λ k. refl) n p)
+        (number_answer (λ a. fluent (plain a)) of_test domain bytes at (λ (x : Option ℕ). fluent_of x 1 (at + 3)) refl (λ k. refl) n p)
 
-    test_neg : get_or bytes at 0 ≡ 33 → (p : Read) → ReadAt test_kind domain bytes (at + 1) p → ReadAt test_kind domain bytes at (above_of p false)
+    test_neg : get_or bytes at 0 ≡ 33 → (p : Option Facts) → ReadAt test_kind domain bytes (at + 1) p → ReadAt test_kind domain bytes at (above_of p false)
     unfolding test_text test_depth test_names test_free test_varies gather
     test_neg e p q =
         test_meets domain bytes at _ (test_at bytes at 33 h e) (above_of p false)
-        (ap (λ (x : Read). above_of x false) (test_is domain bytes (at + 1) p q) ∙ above_answer of_test neg of_test domain at false (λ a. one_more (omega arith) (omega arith) refl) (test_read (drop (at + 1) bytes)))
+        (ap (λ (x : Option Facts). above_of x false) (test_is domain bytes (at + 1) p q) ∙ above_answer of_test neg of_test domain at false (λ a. one_more (omega arith) (omega arith) refl) (test_read (drop (at + 1) bytes)))
 
-    test_both : get_or bytes at 0 ≡ 38 → (f : Facts) (r : Read) → ReadAt test_kind domain bytes (at + 1) (Read.Found f) → ReadAt test_kind domain bytes f.end r → ReadAt test_kind domain bytes at (beside_of f r)
+    test_both : get_or bytes at 0 ≡ 38 → (f : Facts) (r : Option Facts) → ReadAt test_kind domain bytes (at + 1) (Some f) → ReadAt test_kind domain bytes f.end r → ReadAt test_kind domain bytes at (beside_of f r)
     unfolding test_text test_depth test_names test_free test_varies gather
     test_both e f r p q =
         test_meets domain bytes at _ (test_at bytes at 38 h e) (beside_of f r)
         (pair_answer of_test of_test both of_test (λ (x : Facts). x) domain at (λ t u. one_more (rw length-append (omega arith)) (omega arith) (joined (λ v. test_free v t) (λ v. test_free v u))) test_read bytes (test_read (drop (at + 1) bytes))
-        (λ t rest s. (test_sound (drop (at + 1) bytes) t rest s).0) f r (test_is domain bytes (at + 1) (Read.Found f) p) (test_is domain bytes f.end r q))
+        (λ t rest s. (test_sound (drop (at + 1) bytes) t rest s).0) f r (test_is domain bytes (at + 1) (Some f) p) (test_is domain bytes f.end r q))
 
-    test_diamond : get_or bytes at 0 ≡ 60 → (f : Facts) (r : Read) → ReadAt walk_kind domain bytes (at + 1) (Read.Found f) → ReadAt test_kind domain bytes f.end r
+    test_diamond : get_or bytes at 0 ≡ 60 → (f : Facts) (r : Option Facts) → ReadAt walk_kind domain bytes (at + 1) (Some f) → ReadAt test_kind domain bytes f.end r
         → ReadAt test_kind domain bytes at (beside_of (inside_of f) r)
     unfolding test_text test_depth test_names test_free test_varies gather
     test_diamond e f r p q =
         test_meets domain bytes at _ (test_at bytes at 60 h e) (beside_of (inside_of f) r)
         (pair_answer of_walk of_test diamond of_test inside_of domain at (λ w t. one_more (rw length-append (omega arith)) (omega arith) (joined (λ v. walk_free v w) (λ v. test_free v t))) test_read bytes (walk_read (drop (at + 1) bytes))
-        (λ w rest s. (walk_sound (drop (at + 1) bytes) w rest s).0) f r (walk_is domain bytes (at + 1) (Read.Found f) p) (test_is domain bytes f.end r q))
+        (λ w rest s. (walk_sound (drop (at + 1) bytes) w rest s).0) f r (walk_is domain bytes (at + 1) (Some f) p) (test_is domain bytes f.end r q))
 
-    test_sum : get_or bytes at 0 ≡ 103 → (n : Digits) (l : Letter) → NumberAt bytes (at + 1) n → LetterAt bytes (at + 3) l
+    test_sum : get_or bytes at 0 ≡ 103 → (n : Option ℕ) (l : Option ℕ) → NumberAt bytes (at + 1) n → LetterAt bytes (at + 3) l
         → ReadAt test_kind domain bytes at (lettered_of (fluent_of n domain (at + 3)) l)
     unfolding test_text test_depth test_names test_free test_varies
     test_sum e n l p q =
         test_meets domain bytes at _ (test_at bytes at 103 h e) (lettered_of (fluent_of n domain (at + 3)) l)
-        (sum_answer (λ a v. fluent (plus a v)) of_test domain bytes at (λ (x : Digits). fluent_of x domain (at + 3)) refl (λ k v. one_more (omega arith) refl (alone v)) n l p q)
+        (sum_answer (λ a v. fluent (plus a v)) of_test domain bytes at (λ (x : Option ℕ). fluent_of x domain (at + 3)) refl (λ k v. one_more (omega arith) refl (alone v)) n l p q)
 
-    test_exists : get_or bytes at 0 ≡ 101 → (l : Letter) (r : Read) → LetterAt bytes (at + 1) l → ReadAt test_kind domain bytes (at + 2) r
+    test_exists : get_or bytes at 0 ≡ 101 → (l : Option ℕ) (r : Option Facts) → LetterAt bytes (at + 1) l → ReadAt test_kind domain bytes (at + 2) r
         → ReadAt test_kind domain bytes at (bound_of l r)
     unfolding test_text test_depth test_names test_free test_varies
     test_exists e l r p q =
@@ -488,147 +471,153 @@ module _ (domain : ℕ) (bytes : List ℕ) (at : ℕ) where
         (ap (bound_of l) (test_is domain bytes (at + 2) r q)
         ∙ bound_answer of_test exists of_test domain bytes at test_read (λ v t. one_more (omega arith) (omega arith) (taken_off v (λ u. test_free u t))) l p)
 
-    test_both_none : get_or bytes at 0 ≡ 38 → ReadAt test_kind domain bytes (at + 1) Read.Refused → ReadAt test_kind domain bytes at Read.Refused
+    test_both_none : get_or bytes at 0 ≡ 38 → ReadAt test_kind domain bytes (at + 1) None → ReadAt test_kind domain bytes at None
     test_both_none e p =
-        test_meets domain bytes at _ (test_at bytes at 38 h e) Read.Refused
-        (first_refused of_test of_test domain at _ (test_read (drop (at + 1) bytes)) (test_is domain bytes (at + 1) Read.Refused p))
+        test_meets domain bytes at _ (test_at bytes at 38 h e) None
+        (first_refused of_test of_test domain at _ (test_read (drop (at + 1) bytes)) (test_is domain bytes (at + 1) None p))
 
-    test_diamond_none : get_or bytes at 0 ≡ 60 → ReadAt walk_kind domain bytes (at + 1) Read.Refused → ReadAt test_kind domain bytes at Read.Refused
+    test_diamond_none : get_or bytes at 0 ≡ 60 → ReadAt walk_kind domain bytes (at + 1) None → ReadAt test_kind domain bytes at None
     test_diamond_none e p =
-        test_meets domain bytes at _ (test_at bytes at 60 h e) Read.Refused
-        (first_refused of_walk of_test domain at _ (walk_read (drop (at + 1) bytes)) (walk_is domain bytes (at + 1) Read.Refused p))
+        test_meets domain bytes at _ (test_at bytes at 60 h e) None
+        (first_refused of_walk of_test domain at _ (walk_read (drop (at + 1) bytes)) (walk_is domain bytes (at + 1) None p))
 
--- The same by the table of signs: what a reader answers of a sign, from what it answers of what follows.
-module _ (domain : ℕ) (bytes : List ℕ) (at : ℕ) (h : at < length bytes) where
+-- The same by the table of signs: what a reader answers where it has read a sign, from what it answers of what follows.
+module _ (domain : ℕ) (bytes : List ℕ) (at : ℕ) (h : at < length bytes) {s : Sign} (seen : s ≡ sign_meant (get_or bytes at 0)) where
   abbrev sign : ℕ
   sign = get_or bytes at 0
 
-  pub walk_alone : Step ≡ sign_meant sign → ReadAt walk_kind domain bytes at (leaf_of (at + 1) (turns_back sign))
+  abbrev WalkIs : Option Facts → Type 0
+  WalkIs = ReadAt walk_kind domain bytes at
+
+  abbrev TestIs : Option Facts → Type 0
+  TestIs = ReadAt test_kind domain bytes at
+
+  -- the sign that is seen, by its byte
+  byte_is : {k : Sign} → s ≡ k → SignIs sign k
+  byte_is e = sign_is (sym e ∙ seen)
+
+  pub walk_alone : s ≡ Step → {turn : Bool} → turn ≡ turns_back sign → {f : Facts} → f ≡ leaf_of (at + 1) turn → WalkIs (Some f)
   unfolding turns_back
-  walk_alone s = go (sign_is s) refl
+  walk_alone e t q = subst⁻¹ (λ (x : Facts). WalkIs (Some x)) (q ∙ ap (leaf_of (at + 1)) t) (go (byte_is e) refl)
     where
-      go : {b : ℕ} → SignIs b Step → sign ≡ b → ReadAt walk_kind domain bytes at (leaf_of (at + 1) (turns_back sign))
+      go : {b : ℕ} → SignIs b Step → sign ≡ b → WalkIs (Some (leaf_of (at + 1) (turns_back sign)))
       go next_sign e = rw e (walk_next domain bytes at h e)
       go prev_sign e = rw e (walk_prev domain bytes at h e)
 
-  pub walk_named : NamedStep ≡ sign_meant sign → (n : Digits) → NumberAt bytes (at + 1) n → ReadAt walk_kind domain bytes at (step_of n 1 (at + 3) (turns_back sign))
+  pub walk_named : s ≡ NamedStep → (n : Option ℕ) → NumberAt bytes (at + 1) n → {turn : Bool} → turn ≡ turns_back sign → {r : Option Facts} → r ≡ step_of n 1 (at + 3) turn → WalkIs r
   unfolding turns_back
-  walk_named s n p = go (sign_is s) refl
+  walk_named e n p t q = subst⁻¹ WalkIs (q ∙ ap (step_of n 1 (at + 3)) t) (go (byte_is e) refl)
     where
-      go : {b : ℕ} → SignIs b NamedStep → sign ≡ b → ReadAt walk_kind domain bytes at (step_of n 1 (at + 3) (turns_back sign))
+      go : {b : ℕ} → SignIs b NamedStep → sign ≡ b → WalkIs (step_of n 1 (at + 3) (turns_back sign))
       go act_sign e = rw e (walk_act domain bytes at h e n p)
       go undo_sign e = rw e (walk_undo domain bytes at h e n p)
 
-  pub walk_over_walk : OverWalk ≡ sign_meant sign → (p : Read) → ReadAt walk_kind domain bytes (at + 1) p → ReadAt walk_kind domain bytes at (above_of p (turns_back sign))
+  pub walk_over_walk : s ≡ OverWalk → (p : Option Facts) → ReadAt walk_kind domain bytes (at + 1) p → {turn : Bool} → turn ≡ turns_back sign → {r : Option Facts} → r ≡ above_of p turn → WalkIs r
   unfolding turns_back
-  walk_over_walk s p q = go (sign_is s) refl
+  walk_over_walk e p k t q = subst⁻¹ WalkIs (q ∙ ap (above_of p) t) (go (byte_is e) refl)
     where
-      go : {b : ℕ} → SignIs b OverWalk → sign ≡ b → ReadAt walk_kind domain bytes at (above_of p (turns_back sign))
-      go star_sign e = rw e (walk_star domain bytes at h e p q)
-      go conv_sign e = rw e (walk_conv domain bytes at h e p q)
+      go : {b : ℕ} → SignIs b OverWalk → sign ≡ b → WalkIs (above_of p (turns_back sign))
+      go star_sign e = rw e (walk_star domain bytes at h e p k)
+      go conv_sign e = rw e (walk_conv domain bytes at h e p k)
 
-  pub walk_over_test : OverTest ≡ sign_meant sign → (p : Read) → ReadAt test_kind domain bytes (at + 1) p → ReadAt walk_kind domain bytes at (above_of p false)
-  walk_over_test s p q = go (sign_is s) refl
+  pub walk_over_test : s ≡ OverTest → (p : Option Facts) → ReadAt test_kind domain bytes (at + 1) p → {r : Option Facts} → r ≡ above_of p false → WalkIs r
+  walk_over_test e p k q = subst⁻¹ WalkIs q (go (byte_is e) refl)
     where
-      go : {b : ℕ} → SignIs b OverTest → sign ≡ b → ReadAt walk_kind domain bytes at (above_of p false)
-      go check_sign e = walk_check domain bytes at h e p q
+      go : {b : ℕ} → SignIs b OverTest → sign ≡ b → WalkIs (above_of p false)
+      go check_sign e = walk_check domain bytes at h e p k
 
-  pub walk_two : TwoWalks ≡ sign_meant sign → (f : Facts) (r : Read) → ReadAt walk_kind domain bytes (at + 1) (Read.Found f) → ReadAt walk_kind domain bytes f.end r
-      → ReadAt walk_kind domain bytes at (beside_of f r)
-  walk_two s f r p q = go (sign_is s) refl
+  pub walk_two : s ≡ TwoWalks → (f : Facts) → ReadAt walk_kind domain bytes (at + 1) (Some f) → (p : Option Facts) → ReadAt walk_kind domain bytes f.end p → {r : Option Facts} → r ≡ beside_of f p → WalkIs r
+  walk_two e f i p k q = subst⁻¹ WalkIs q (go (byte_is e) refl)
     where
-      go : {b : ℕ} → SignIs b TwoWalks → sign ≡ b → ReadAt walk_kind domain bytes at (beside_of f r)
-      go seq_sign e = walk_seq domain bytes at h e f r p q
-      go alt_sign e = walk_alt domain bytes at h e f r p q
+      go : {b : ℕ} → SignIs b TwoWalks → sign ≡ b → WalkIs (beside_of f p)
+      go seq_sign e = walk_seq domain bytes at h e f p i k
+      go alt_sign e = walk_alt domain bytes at h e f p i k
 
-  pub walk_two_none : TwoWalks ≡ sign_meant sign → ReadAt walk_kind domain bytes (at + 1) Read.Refused → ReadAt walk_kind domain bytes at Read.Refused
-  walk_two_none s p = go (sign_is s) refl
+  pub walk_two_none : s ≡ TwoWalks → ReadAt walk_kind domain bytes (at + 1) None → {r : Option Facts} → r ≡ None → WalkIs r
+  walk_two_none e i q = subst⁻¹ WalkIs q (go (byte_is e) refl)
     where
-      go : {b : ℕ} → SignIs b TwoWalks → sign ≡ b → ReadAt walk_kind domain bytes at Read.Refused
-      go seq_sign e = walk_pair_none domain bytes at h 59 _ (walk_at bytes at 59 h e) p
-      go alt_sign e = walk_pair_none domain bytes at h 124 _ (walk_at bytes at 124 h e) p
+      go : {b : ℕ} → SignIs b TwoWalks → sign ≡ b → WalkIs None
+      go seq_sign e = walk_pair_none domain bytes at h 59 _ (walk_at bytes at 59 h e) i
+      go alt_sign e = walk_pair_none domain bytes at h 124 _ (walk_at bytes at 124 h e) i
 
-  pub walk_sum : SumStep ≡ sign_meant sign → (n : Digits) (l : Letter) → NumberAt bytes (at + 1) n → LetterAt bytes (at + 3) l
-      → ReadAt walk_kind domain bytes at (lettered_of (step_of n domain (at + 3) (turns_back sign)) l)
+  pub walk_sum : s ≡ SumStep → (n : Option ℕ) → NumberAt bytes (at + 1) n → {turn : Bool} → turn ≡ turns_back sign → {named : Option Facts} → named ≡ step_of n domain (at + 3) turn
+      → (l : Option ℕ) → LetterAt bytes (at + 3) l → {r : Option Facts} → r ≡ lettered_of named l → WalkIs r
   unfolding turns_back
-  walk_sum s n l p q = go (sign_is s) refl
+  walk_sum e n p t m l i q = subst⁻¹ WalkIs (q ∙ ap (λ (x : Option Facts). lettered_of x l) (m ∙ ap (step_of n domain (at + 3)) t)) (go (byte_is e) refl)
     where
-      go : {b : ℕ} → SignIs b SumStep → sign ≡ b → ReadAt walk_kind domain bytes at (lettered_of (step_of n domain (at + 3) (turns_back sign)) l)
-      go sum_act_sign e = rw e (walk_sum_act domain bytes at h e n l p q)
-      go sum_undo_sign e = rw e (walk_sum_undo domain bytes at h e n l p q)
+      go : {b : ℕ} → SignIs b SumStep → sign ≡ b → WalkIs (lettered_of (step_of n domain (at + 3) (turns_back sign)) l)
+      go sum_act_sign e = rw e (walk_sum_act domain bytes at h e n l p i)
+      go sum_undo_sign e = rw e (walk_sum_undo domain bytes at h e n l p i)
 
-  pub walk_some : SomeWalk ≡ sign_meant sign → (l : Letter) (r : Read) → LetterAt bytes (at + 1) l → ReadAt walk_kind domain bytes (at + 2) r
-      → ReadAt walk_kind domain bytes at (bound_of l r)
-  walk_some s l r p q = go (sign_is s) refl
+  pub walk_some : s ≡ SomeWalk → (l : Option ℕ) → LetterAt bytes (at + 1) l → (p : Option Facts) → ReadAt walk_kind domain bytes (at + 2) p → {r : Option Facts} → r ≡ bound_of l p → WalkIs r
+  walk_some e l i p k q = subst⁻¹ WalkIs q (go (byte_is e) refl)
     where
-      go : {b : ℕ} → SignIs b SomeWalk → sign ≡ b → ReadAt walk_kind domain bytes at (bound_of l r)
-      go pick_sign e = walk_pick domain bytes at h e l r p q
+      go : {b : ℕ} → SignIs b SomeWalk → sign ≡ b → WalkIs (bound_of l p)
+      go pick_sign e = walk_pick domain bytes at h e l p i k
 
-  pub walk_strange : (s : Sign) → s ≡ sign_meant sign → NoWalk s → ReadAt walk_kind domain bytes at Read.Refused
-  walk_strange s e n =
-      walk_meets domain bytes at bad (walk_at bytes at sign h refl ∙ ap (λ (y : Shape Walk). read_by y walk_read test_read (drop (at + 1) bytes)) (unread_as_walk (sign_is e) n)) Read.Refused refl
+  pub walk_strange : NoWalk s → WalkIs None
+  walk_strange n =
+      walk_meets domain bytes at bad (walk_at bytes at sign h refl ∙ ap (λ (y : Shape Walk). read_by y walk_read test_read (drop (at + 1) bytes)) (unread_as_walk (sign_is seen) n)) None refl
 
-  pub test_constant : Constant ≡ sign_meant sign → ReadAt test_kind domain bytes at (leaf_of (at + 1) false)
-  test_constant s = go (sign_is s) refl
+  pub test_constant : s ≡ Constant → {f : Facts} → f ≡ leaf_of (at + 1) false → TestIs (Some f)
+  test_constant e q = subst⁻¹ (λ (x : Facts). TestIs (Some x)) q (go (byte_is e) refl)
     where
-      go : {b : ℕ} → SignIs b Constant → sign ≡ b → ReadAt test_kind domain bytes at (leaf_of (at + 1) false)
+      go : {b : ℕ} → SignIs b Constant → sign ≡ b → TestIs (Some (leaf_of (at + 1) false))
       go always_sign e = test_always domain bytes at h e
 
-  pub test_named : NamedFluent ≡ sign_meant sign → (n : Digits) → NumberAt bytes (at + 1) n → ReadAt test_kind domain bytes at (fluent_of n 1 (at + 3))
-  test_named s n p = go (sign_is s) refl
+  pub test_named : s ≡ NamedFluent → (n : Option ℕ) → NumberAt bytes (at + 1) n → {r : Option Facts} → r ≡ fluent_of n 1 (at + 3) → TestIs r
+  test_named e n p q = subst⁻¹ TestIs q (go (byte_is e) refl)
     where
-      go : {b : ℕ} → SignIs b NamedFluent → sign ≡ b → ReadAt test_kind domain bytes at (fluent_of n 1 (at + 3))
+      go : {b : ℕ} → SignIs b NamedFluent → sign ≡ b → TestIs (fluent_of n 1 (at + 3))
       go fluent_sign e = test_fluent domain bytes at h e n p
 
-  pub test_denial : Denial ≡ sign_meant sign → (p : Read) → ReadAt test_kind domain bytes (at + 1) p → ReadAt test_kind domain bytes at (above_of p false)
-  test_denial s p q = go (sign_is s) refl
+  pub test_denial : s ≡ Denial → (p : Option Facts) → ReadAt test_kind domain bytes (at + 1) p → {r : Option Facts} → r ≡ above_of p false → TestIs r
+  test_denial e p k q = subst⁻¹ TestIs q (go (byte_is e) refl)
     where
-      go : {b : ℕ} → SignIs b Denial → sign ≡ b → ReadAt test_kind domain bytes at (above_of p false)
-      go neg_sign e = test_neg domain bytes at h e p q
+      go : {b : ℕ} → SignIs b Denial → sign ≡ b → TestIs (above_of p false)
+      go neg_sign e = test_neg domain bytes at h e p k
 
-  pub test_two : TwoTests ≡ sign_meant sign → (f : Facts) (r : Read) → ReadAt test_kind domain bytes (at + 1) (Read.Found f) → ReadAt test_kind domain bytes f.end r
-      → ReadAt test_kind domain bytes at (beside_of f r)
-  test_two s f r p q = go (sign_is s) refl
+  pub test_two : s ≡ TwoTests → (f : Facts) → ReadAt test_kind domain bytes (at + 1) (Some f) → (p : Option Facts) → ReadAt test_kind domain bytes f.end p → {r : Option Facts} → r ≡ beside_of f p → TestIs r
+  test_two e f i p k q = subst⁻¹ TestIs q (go (byte_is e) refl)
     where
-      go : {b : ℕ} → SignIs b TwoTests → sign ≡ b → ReadAt test_kind domain bytes at (beside_of f r)
-      go both_sign e = test_both domain bytes at h e f r p q
+      go : {b : ℕ} → SignIs b TwoTests → sign ≡ b → TestIs (beside_of f p)
+      go both_sign e = test_both domain bytes at h e f p i k
 
-  pub test_two_none : TwoTests ≡ sign_meant sign → ReadAt test_kind domain bytes (at + 1) Read.Refused → ReadAt test_kind domain bytes at Read.Refused
-  test_two_none s p = go (sign_is s) refl
+  pub test_two_none : s ≡ TwoTests → ReadAt test_kind domain bytes (at + 1) None → {r : Option Facts} → r ≡ None → TestIs r
+  test_two_none e i q = subst⁻¹ TestIs q (go (byte_is e) refl)
     where
-      go : {b : ℕ} → SignIs b TwoTests → sign ≡ b → ReadAt test_kind domain bytes at Read.Refused
-      go both_sign e = test_both_none domain bytes at h e p
+      go : {b : ℕ} → SignIs b TwoTests → sign ≡ b → TestIs None
+      go both_sign e = test_both_none domain bytes at h e i
 
-  pub walk_of_test : WalkThenTest ≡ sign_meant sign → (f : Facts) (r : Read) → ReadAt walk_kind domain bytes (at + 1) (Read.Found f) → ReadAt test_kind domain bytes f.end r
-      → ReadAt test_kind domain bytes at (beside_of (inside_of f) r)
-  walk_of_test s f r p q = go (sign_is s) refl
+  pub walk_of_test : s ≡ WalkThenTest → (f : Facts) → ReadAt walk_kind domain bytes (at + 1) (Some f) → {g : Facts} → g ≡ inside_of f → (p : Option Facts) → ReadAt test_kind domain bytes f.end p
+      → {r : Option Facts} → r ≡ beside_of g p → TestIs r
+  walk_of_test e f i m p k q = subst⁻¹ TestIs (q ∙ ap (λ (x : Facts). beside_of x p) m) (go (byte_is e) refl)
     where
-      go : {b : ℕ} → SignIs b WalkThenTest → sign ≡ b → ReadAt test_kind domain bytes at (beside_of (inside_of f) r)
-      go diamond_sign e = test_diamond domain bytes at h e f r p q
+      go : {b : ℕ} → SignIs b WalkThenTest → sign ≡ b → TestIs (beside_of (inside_of f) p)
+      go diamond_sign e = test_diamond domain bytes at h e f p i k
 
-  pub test_walk_none : WalkThenTest ≡ sign_meant sign → ReadAt walk_kind domain bytes (at + 1) Read.Refused → ReadAt test_kind domain bytes at Read.Refused
-  test_walk_none s p = go (sign_is s) refl
+  pub test_walk_none : s ≡ WalkThenTest → ReadAt walk_kind domain bytes (at + 1) None → {r : Option Facts} → r ≡ None → TestIs r
+  test_walk_none e i q = subst⁻¹ TestIs q (go (byte_is e) refl)
     where
-      go : {b : ℕ} → SignIs b WalkThenTest → sign ≡ b → ReadAt test_kind domain bytes at Read.Refused
-      go diamond_sign e = test_diamond_none domain bytes at h e p
+      go : {b : ℕ} → SignIs b WalkThenTest → sign ≡ b → TestIs None
+      go diamond_sign e = test_diamond_none domain bytes at h e i
 
-  pub test_summed : SumFluent ≡ sign_meant sign → (n : Digits) (l : Letter) → NumberAt bytes (at + 1) n → LetterAt bytes (at + 3) l
-      → ReadAt test_kind domain bytes at (lettered_of (fluent_of n domain (at + 3)) l)
-  test_summed s n l p q = go (sign_is s) refl
+  pub test_summed : s ≡ SumFluent → (n : Option ℕ) → NumberAt bytes (at + 1) n → {named : Option Facts} → named ≡ fluent_of n domain (at + 3) → (l : Option ℕ) → LetterAt bytes (at + 3) l
+      → {r : Option Facts} → r ≡ lettered_of named l → TestIs r
+  test_summed e n p m l i q = subst⁻¹ TestIs (q ∙ ap (λ (x : Option Facts). lettered_of x l) m) (go (byte_is e) refl)
     where
-      go : {b : ℕ} → SignIs b SumFluent → sign ≡ b → ReadAt test_kind domain bytes at (lettered_of (fluent_of n domain (at + 3)) l)
-      go sum_fluent_sign e = test_sum domain bytes at h e n l p q
+      go : {b : ℕ} → SignIs b SumFluent → sign ≡ b → TestIs (lettered_of (fluent_of n domain (at + 3)) l)
+      go sum_fluent_sign e = test_sum domain bytes at h e n l p i
 
-  pub test_some : SomeTest ≡ sign_meant sign → (l : Letter) (r : Read) → LetterAt bytes (at + 1) l → ReadAt test_kind domain bytes (at + 2) r
-      → ReadAt test_kind domain bytes at (bound_of l r)
-  test_some s l r p q = go (sign_is s) refl
+  pub test_some : s ≡ SomeTest → (l : Option ℕ) → LetterAt bytes (at + 1) l → (p : Option Facts) → ReadAt test_kind domain bytes (at + 2) p → {r : Option Facts} → r ≡ bound_of l p → TestIs r
+  test_some e l i p k q = subst⁻¹ TestIs q (go (byte_is e) refl)
     where
-      go : {b : ℕ} → SignIs b SomeTest → sign ≡ b → ReadAt test_kind domain bytes at (bound_of l r)
-      go exists_sign e = test_exists domain bytes at h e l r p q
+      go : {b : ℕ} → SignIs b SomeTest → sign ≡ b → TestIs (bound_of l p)
+      go exists_sign e = test_exists domain bytes at h e l p i k
 
-  pub test_strange : (s : Sign) → s ≡ sign_meant sign → NoTest s → ReadAt test_kind domain bytes at Read.Refused
-  test_strange s e n =
-      test_meets domain bytes at bad (test_at bytes at sign h refl ∙ ap (λ (y : Shape Test). read_by y walk_read test_read (drop (at + 1) bytes)) (unread_as_test (sign_is e) n)) Read.Refused refl
+  pub test_strange : NoTest s → TestIs None
+  test_strange n =
+      test_meets domain bytes at bad (test_at bytes at sign h refl ∙ ap (λ (y : Shape Test). read_by y walk_read test_read (drop (at + 1) bytes)) (unread_as_test (sign_is seen) n)) None refl
 
 -- Bounds of what is found: a rule has a depth, and no more of it than bytes.
 abbrev Deep : ℕ → List ℕ → Type 0
@@ -670,63 +659,30 @@ pub record Within (bytes : List ℕ) (at : ℕ) (f : Facts) : Type 0 where
   pub inside : f.end ≤ length bytes
   pub deep : f.depth ≤ length bytes - at
 
-pub found_within : (kind : Kind) (domain : ℕ) (bytes : List ℕ) (at : ℕ) (f : Facts) → ReadAt kind domain bytes at (Read.Found f) → Within bytes at f
+pub found_within : (kind : Kind) (domain : ℕ) (bytes : List ℕ) (at : ℕ) (f : Facts) → ReadAt kind domain bytes at (Some f) → Within bytes at f
 found_within kind domain bytes at f (r, rest, o, e) =
     let whole : length (drop at bytes) ≡ length (text r) + length rest = ap length o.spells ∙ length-append (text r) rest in
     let left = length-drop at bytes in
     let (some, few) = rule_deep r in
     subst⁻¹ (Within bytes at) e (record { past = omega arith; inside = omega arith; deep = omega arith })
 
-pub depth_within : (kind : Kind) (domain : ℕ) (bytes : List ℕ) (at : ℕ) (r : Read) → ReadAt kind domain bytes at r → depth_in r ≤ length bytes - at
-depth_within kind domain bytes at Read.Refused h = omega arith
-depth_within kind domain bytes at (Read.Found f) h = (found_within kind domain bytes at f h).deep
+pub depth_within : (kind : Kind) (domain : ℕ) (bytes : List ℕ) (at : ℕ) (r : Option Facts) → ReadAt kind domain bytes at r → depth_in r ≤ length bytes - at
+depth_within kind domain bytes at None h = omega arith
+depth_within kind domain bytes at (Some f) h = (found_within kind domain bytes at f h).deep
 
--- a name that is found ends where it is said to
-pub step_ends : (n : Digits) (more end : ℕ) (turn : Bool) → end_in (step_of n more end turn) ≤ end
-step_ends Other more end turn = omega arith
-step_ends (Number n) more end turn = omega arith
-
-pub fluent_ends : (n : Digits) (more end : ℕ) → end_in (fluent_of n more end) ≤ end
-fluent_ends Other more end = omega arith
-fluent_ends (Number n) more end = omega arith
-
--- What the readers know where they have read a sign: it lies within a text that is short enough, of which so much is left, and a variable has few values.
-pub record Place (bytes : List ℕ) (at left domain : ℕ) : Type 0 where
-  pub inside : at < length bytes
-  pub short : length bytes ≤ text_limit
-  pub rest : length bytes - at ≡ left
-  pub few : domain ≤ domain_limit
-
-module _ {bytes : List ℕ} {at left domain : ℕ} (p : Place bytes at left domain) where
-  -- a part that begins behind the sign may be read: less is left there, and the text is as short
-  pub later : (k : ℕ) → at < k → (length bytes - k < left) × ((length bytes ≤ text_limit) × (domain ≤ domain_limit))
-  later k past = (omega (arith, p.inside, p.rest), (p.short, p.few))
-
-  -- the next place is within the limit, and a sum with the number's bytes fits
-  pub next_low : at + 1 ≤ text_limit
-  next_low = omega (arith, p.inside, p.short)
-
-  -- a name, and a letter behind it or behind the sign
-  pub named : (more : ℕ) (n : Digits) → more ≤ domain_limit → NumberAt bytes (at + 1) n → NamedWithin n more (at + 3)
-  named more n few h = named_within bytes at more n p.short few h
-
-  pub letter_behind : (part : Read) (l : Letter) → (end_in part ≤ at + 3) → LetterAt bytes (at + 3) l → LetterWithin l (end_in part)
-  letter_behind part Letter.Other e h = tt
-  letter_behind part (Letter.Place k) e (v, same, there) =
-      (omega (arith, same, place_low v), omega (arith, e, p.short, ap length there, length-drop (at + 3) bytes))
-
-  pub letter_placed : (l : Letter) (k : ℕ) → LetterAt bytes k l → PlaceWithin l
-  letter_placed Letter.Other k h = tt
-  letter_placed (Letter.Place i) k (v, same, there) = omega (arith, same, place_low v)
+-- What the readers know where they have read a sign: it lies within a text that is short enough, and a variable has few values.
+module _ (domain : ℕ) (bytes : List ℕ) (at : ℕ) (h : at < length bytes) (small : (length bytes ≤ text_limit) × (domain ≤ domain_limit)) where
+  -- a letter behind the sign
+  pub letter_placed : (l : Option ℕ) (k : ℕ) → LetterAt bytes k l → PlaceWithin l
+  letter_placed None k i = tt
+  letter_placed (Some j) k (v, same, there) = omega (arith, same, place_low v)
 
   -- what is found behind the sign leaves room for one level more
-  pub shallow : (kind : Kind) (k : ℕ) (r : Read) → at < k → ReadAt kind domain bytes k r → depth_in r < text_limit
-  shallow kind k r past h = omega (arith, depth_within kind domain bytes k r h, p.inside, p.short)
+  pub shallow : (kind : Kind) (k : ℕ) (p : Option Facts) → at < k → ReadAt kind domain bytes k p → depth_in p < text_limit
+  shallow kind k p past i = omega (arith, depth_within kind domain bytes k p i)
 
   -- so do two parts, of which the first is found
-  pub first_past : (kind : Kind) (f : Facts) → ReadAt kind domain bytes (at + 1) (Read.Found f) → at < f.end
-  first_past kind f h = omega (arith, (found_within kind domain bytes (at + 1) f h).past)
-
-  pub both_shallow : (kind kind' : Kind) (f : Facts) (r : Read) → ReadAt kind domain bytes (at + 1) (Read.Found f) → ReadAt kind' domain bytes f.end r
-      → (f.depth < text_limit) × (depth_in r < text_limit)
-  both_shallow kind kind' f r h i = (shallow kind (at + 1) (Read.Found f) (omega arith) h, shallow kind' f.end r (first_past kind f h) i)
+  pub both_shallow : (kind kind' : Kind) (f : Facts) (p : Option Facts) → ReadAt kind domain bytes (at + 1) (Some f) → ReadAt kind' domain bytes f.end p
+      → (f.depth < text_limit) × (depth_in p < text_limit)
+  both_shallow kind kind' f p i j =
+      (shallow kind (at + 1) (Some f) (omega arith) i, shallow kind' f.end p (omega (arith, (found_within kind domain bytes (at + 1) f i).past)) j)

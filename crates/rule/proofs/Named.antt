@@ -1,21 +1,16 @@
 -- Laws of a name whose number stands behind a sign. No code.
-use mathlib.Core.Path.{◌≡◌, ap, subst}
+use mathlib.Core.Path.{ap}
 use mathlib.Core.List.{List}
 use Prim.Native.Nat.{ℕ, ◌+◌, ◌≤◌}
 use native.Mathlib.Omega.{arith}
 use lib.ListN.{length, length-drop}
+use Rattle.std.specs.Prelude.{Option, Some, None}
 use Rattle.meaning.specs.Limits.{text_limit, domain_limit}
-use Rattle.spelling.specs.declared.Digits.{Digits}
-use Rattle.spelling.specs.declared.Digits.TheVariants.{Number, Other}
 use Rattle.spelling.specs.Scan.{NumberAt}
 use Rattle.rule.specs.Facts.{NamedWithin}
 
 -- behind a sign, what a number ends ends within the text
-pub named_within : (text : List ℕ) (at more : ℕ) (n : Digits) → length text ≤ text_limit → more ≤ domain_limit → NumberAt text (at + 1) n
+pub named_within : (text : List ℕ) (at more : ℕ) (n : Option ℕ) → length text ≤ text_limit → more ≤ domain_limit → NumberAt text (at + 1) n
     → NamedWithin n more (at + 3)
-named_within text at more Other short few h = tt
-named_within text at more (Number n) short few h = (h.0, few, omega (arith, short, ap length h.1, length-drop (at + 1) text))
-
--- so much is known of a name that is this number
-pub number_named : {name : Digits} {n : ℕ} (more end : ℕ) → name ≡ Number n → NamedWithin name more end → NamedWithin (Number n) more end
-number_named more end e h = subst (λ (x : Digits). NamedWithin x more end) e h
+named_within text at more None short few h = tt
+named_within text at more (Some n) short few h = (h.0, few, omega (arith, short, ap length h.1, length-drop (at + 1) text))

@@ -2,7 +2,7 @@
 -- contracts leave one outcome. No code.
 use mathlib.Core.Path.{◌≡◌, refl, sym, ap, ap₂, subst, subst⁻¹, ◌∙◌}
 use mathlib.Core.Logic.Iff
-use mathlib.Core.Logic.{◌⊎◌, inl, inr, ⊎_elim, ◌↔◌}
+use mathlib.Core.Logic.{inl, inr, ⊎_elim, ◌↔◌}
 use mathlib.Core.Bool.{Bool, true, false}
 use mathlib.Core.List.{List, [], ◌∷◌, cons≢nil}
 use Prim.Native.Nat.{ℕ, ◌+◌, ◌≤◌, ◌<◌}
@@ -11,24 +11,22 @@ use native.Mathlib.Omega.{arith}
 use lib.ListN.{length, drop, length-append, length-drop}
 use lib.Seq.{take_all, drop-append_seam}
 use denote.Ref.{Bor}
+use Rattle.std.specs.Prelude.{Some, Result, Ok, Err}
 use Rattle.laws.proofs.Truth.{no_truth, off_on}
 use Rattle.meaning.specs.Limits.{text_limit, depth_limit}
-use Rattle.meaning.specs.Rule.{Kind, test_kind, walk_kind, job_kind, Rule, Variable, Opens, text as spelling, depth, actions_in, fluents_in, backward_in, free_in, varies_in}
+use Rattle.meaning.specs.Rule.{Kind, test_kind, job_kind, Rule, Variable, Opens, text as spelling, depth, actions_in, fluents_in, backward_in, free_in, varies_in}
 use Rattle.meaning.specs.Refusal.{Row, ◌when◌, FirstHolding, Refused, Accepted, falls, Allowed, BadNames, TooDeep, BadJob, Unbound}
-use Rattle.meaning.proofs.Refusal.{past, here, accepts, passes, answered_determined}
+use Rattle.meaning.proofs.Refusal.{past, passes, answered_determined}
 use Rattle.meaning.proofs.Reading.{unique_reading, opens?}
 use Rattle.refusal.specs.declared.Refusal.{Refusal}
 use Rattle.theory.specs.declared.Counts.{Counts}
 use Rattle.theory.specs.Rows.{CountsOut}
 use Rattle.rule.specs.declared.answer.Facts.{Facts}
-use Rattle.rule.specs.declared.answer.Read.{Read}
-use Rattle.rule.specs.declared.judge.Surveyed.{Surveyed}
 use Rattle.rule.specs.Facts.{facts_of}
 use Rattle.rule.specs.Read.{ReadAt}
 use Rattle.rule.specs.Outcome.{Spelled, Unspelled, With, text_rows, rule_rows, bytes_from, PartAt, ReadAnswered}
 use Rattle.rule.specs.Judged.{Fitting, SurveyedAs, Opening, fact_rows, JudgedAs}
 use Rattle.rule.proofs.Variables.{some_free}
-use Rattle.rule.proofs.Answers.{found_within}
 use Rattle.grammar.proofs.Spread.{some_text}
 
 -- Two lists with the same numbers, whose sentences hold alike, give the same answer.
@@ -53,19 +51,11 @@ alike_accepted [] (s ∷ ss) e a = absurd e
 alike_accepted (r ∷ rs) [] e a = absurd e
 alike_accepted (r ∷ rs) (s ∷ ss) e a = (λ g. a.0 (e.1.1 g), alike_accepted rs ss e.2 a.1)
 
-no_rest : (rest : List ℕ) → length rest ≡ 0 → rest ≡ []
-no_rest [] e = refl
-no_rest (b ∷ rest) e = absurd (omega arith)
-
 -- What opening a text answers.
 module _ (kind : Kind) (domain : ℕ) (bytes : List ℕ) where
   pub too_long : (whole : Bool) → text_limit < length bytes → Unspelled whole kind domain bytes
   too_long true h = inr (inl h)
   too_long false h = inr (inl h)
-
-  pub no_rule : (whole : Bool) → ReadAt kind domain bytes 0 Read.Refused → Unspelled whole kind domain bytes
-  no_rule true h = inr (inr (λ r o a. h r [] o))
-  no_rule false h = inr (inr (λ r rest o a. h r rest o))
 
   -- where a rule ends, and where the text
   end_is : (f : Facts) (r : Rule) → f ≡ facts_of domain (0 + length (spelling r)) r → f.end ≡ length (spelling r)
@@ -75,7 +65,7 @@ module _ (kind : Kind) (domain : ℕ) (bytes : List ℕ) where
   length_is r rest o = ap length o.spells ∙ length-append (spelling r) rest
 
   -- a rule with variables where they have no values
-  pub no_values_law : (whole : Bool) (f : Facts) → (domain ≡ 0) × (f.varies ≡ true) → ReadAt kind domain bytes 0 (Read.Found f) → Unspelled whole kind domain bytes
+  pub no_values_law : (whole : Bool) (f : Facts) → (domain ≡ 0) × (f.varies ≡ true) → ReadAt kind domain bytes 0 (Some f) → Unspelled whole kind domain bytes
   no_values_law whole f (zero, varies) (r, rest, o, e) = go whole
     where
       barred : (r' : Rule) (rest' : List ℕ) → Opens kind bytes r' rest' → Allowed domain r' → ⊥
@@ -86,22 +76,7 @@ module _ (kind : Kind) (domain : ℕ) (bytes : List ℕ) where
       go true = inr (inr (λ r' o' a. barred r' [] o' a))
       go false = inr (inr barred)
 
-  -- what is found is allowed, past that
-  module _ (f : Facts) (short : length bytes ≤ text_limit) (valued : (domain ≡ 0) × (f.varies ≡ true) → ⊥) where
-    allowed : (r : Rule) → f ≡ facts_of domain (0 + length (spelling r)) r → Allowed domain r
-    allowed r e zero = no_truth (varies_in r) (λ v. valued (zero, ap (λ (g : Facts). g.varies) e ∙ v))
-
-    pub opens_part : ReadAt kind domain bytes 0 (Read.Found f) → Opening false kind domain bytes f
-    opens_part (r, rest, o, e) =
-        record { short = short; rule = r; spells = (rest, o); allowed = allowed r e; told = e ∙ ap (λ (n : ℕ). facts_of domain n r) (zero-add (length (spelling r))) }
-
-    -- where the unread part is empty, nothing follows the rule
-    pub opens_whole : length (drop f.end bytes) ≤ 0 → ReadAt kind domain bytes 0 (Read.Found f) → Opening true kind domain bytes f
-    opens_whole end (r, rest, o, e) =
-        let none = no_rest rest (omega (arith, end_is f r e, length_is r rest o, length-drop f.end bytes)) in
-        record { short = short; rule = r; spells = subst (Opens kind bytes r) none o; allowed = allowed r e; told = e ∙ ap (λ (n : ℕ). facts_of domain n r) (zero-add (length (spelling r))) }
-
-  pub rest_follows : (f : Facts) → 0 < length (drop f.end bytes) → ReadAt kind domain bytes 0 (Read.Found f) → Unspelled true kind domain bytes
+  pub rest_follows : (f : Facts) → 0 < length (drop f.end bytes) → ReadAt kind domain bytes 0 (Some f) → Unspelled true kind domain bytes
   rest_follows f more (r, rest, o, e) =
       inr (inr (λ r' o' a. absurd (omega (arith, more, end_is f r e, length_is r rest o, ap length (unique_reading o o').1, length-drop f.end bytes))))
 
@@ -128,15 +103,8 @@ module _ (whole : Bool) (kind : Kind) (bytes : List ℕ) where
   with_fault {r} fault s =
       (λ f. record { rule = r; spells = s; faulty = f }, λ w. subst fault (spelled_once whole kind bytes w.spells s) w.faulty)
 
-  -- The checks, one after the other.
+  -- The facts judged: the rows that they decide are those of the rule that is spelled.
   module _ (counts : Counts) where
-    pub counts_refused : CountsOut counts → SurveyedAs whole kind bytes counts (Surveyed.Refused Refusal.BadNumber)
-    counts_refused h = here h
-
-    pub rule_refused : (CountsOut counts → ⊥) → Unspelled whole kind counts.domain bytes → SurveyedAs whole kind bytes counts (Surveyed.Refused Refusal.BadRule)
-    rule_refused n h = past n (here h)
-
-    -- the rows that the facts decide are those of the rule that is spelled
     abbrev names : Rule → Type 0
     names = BadNames counts.domain counts.fluents counts.actions
 
@@ -151,66 +119,28 @@ module _ (whole : Bool) (kind : Kind) (bytes : List ℕ) where
         subst⁻¹ (λ (x : Facts). Alike (fact_rows kind counts x) rule_faults) o.told
         (refl, with_fault names o.spells, (refl, with_fault TooDeep o.spells, (refl, with_fault (BadJob kind) o.spells, (refl, Iff.trans (some_free o.rule) (with_fault Unbound o.spells), tt))))
 
-    pub facts_judged : (f : Facts) (r : Surveyed) → (CountsOut counts → ⊥) → Opening whole kind counts.domain bytes f → JudgedAs kind counts f r
+    pub facts_judged : (f : Facts) (r : Result Facts Refusal) → (CountsOut counts → ⊥) → Opening whole kind counts.domain bytes f → JudgedAs kind counts f r
         → SurveyedAs whole kind bytes counts r
-    facts_judged f (Surveyed.Refused why) n o h =
+    facts_judged f (Err why) n o h =
         past n (past (spelled_no_six whole kind counts.domain bytes f o) (alike_refused (fact_rows kind counts f) rule_faults (rows_alike f o) h))
-    facts_judged f (Surveyed.Fits g) n o h = record {
+    facts_judged f (Ok g) n o h = record {
       accepted = passes n (passes (spelled_no_six whole kind counts.domain bytes f o) (alike_accepted (fact_rows kind counts f) rule_faults (rows_alike f o) h.1));
       rule = o.rule;
       spells = o.spells;
       told = h.0 ∙ o.told;
     }
 
--- What the facts decide.
-module _ (kind : Kind) (counts : Counts) (f : Facts) where
-  -- every name is known
-  module _ (a : f.actions ≤ counts.actions) (l : f.fluents ≤ counts.fluents) where
-    names_known : (counts.actions < f.actions) ⊎ (counts.fluents < f.fluents) → ⊥
-    names_known (inl h) = omega arith
-    names_known (inr h) = omega arith
-
-    pub judged_deep : depth_limit < f.depth → JudgedAs kind counts f (Surveyed.Refused Refusal.TooDeep)
-    judged_deep h = past names_known (here h)
-
-    -- and it is not too deep
-    module _ (d : f.depth ≤ depth_limit) where
-      not-deep : depth_limit < f.depth → ⊥
-      not-deep h = omega arith
-
-      pub judged-backward : (kind ≡ job_kind) × (f.backward ≡ true) → JudgedAs kind counts f (Surveyed.Refused Refusal.BackwardJob)
-      judged-backward b = past names_known (past not-deep (here b))
-
-      -- nor a job with a backward sign
-      module _ (n : (kind ≡ job_kind) × (f.backward ≡ true) → ⊥) where
-        pub judged-unbound : 0 < f.free → JudgedAs kind counts f (Surveyed.Refused Refusal.Unbound)
-        judged-unbound h = past names_known (past not-deep (past n (here h)))
-
-        pub judged-fits : f.free ≤ 0 → JudgedAs kind counts f (Surveyed.Fits f)
-        judged-fits u =
-            let bound : 0 < f.free → ⊥ = λ h. omega arith in
-            (refl, passes names_known (passes not-deep (passes n (passes bound accepts))))
-
 -- only a job is a job
 pub test_no_job : test_kind ≡ job_kind → ⊥
 test_no_job e = let z : ◌≡◌ {A = ℕ} 0 1 = cc in omega arith
-
-pub walk_no_job : walk_kind ≡ job_kind → ⊥
-walk_no_job e = let z : ◌≡◌ {A = ℕ} 0 1 = cc in omega arith
 
 -- What is handed back: the part from the rule's end on is the rest.
 pub from_is : (start : ℕ) (bytes : List ℕ) → bytes_from start bytes ≡ drop start bytes
 from_is start bytes = take_all _ (drop start bytes) (le_of_eq (length-drop start bytes))
 
-pub found_inside : (kind : Kind) (domain : ℕ) (bytes : List ℕ) (f : Facts) → ReadAt kind domain bytes 0 (Read.Found f) → f.end ≤ length bytes
-found_inside kind domain bytes f found = (found_within kind domain bytes 0 f found).inside
-
 module _ (kind : Kind) (text : Bor (List ℕ)) (counts : Counts) (f : Facts) (fit : Fitting false kind text.now counts f) where
   told_end : f.end ≡ length (spelling fit.rule)
   told_end = ap (λ (g : Facts). g.end) fit.told
-
-  pub ends_inside : f.end ≤ length text.now
-  ends_inside = omega (arith, told_end, length_is kind 0 text.now fit.rule fit.spells.0 fit.spells.1)
 
   part_is : drop f.end text.now ≡ fit.spells.0
   part_is =

@@ -1,16 +1,15 @@
 -- Laws of what is known of a letter that was found, and of sets of variables, a bit each. No code.
-use mathlib.Core.Path.{◌≡◌, refl, sym, ap, subst, subst₂, ◌∙◌}
+use mathlib.Core.Path.{◌≡◌, refl, sym, ap, ◌∙◌}
 use mathlib.Core.Logic.{◌↔◌}
 use mathlib.Core.Bool.{Bool, true, false, not, ◌&&◌, ◌||◌, and-or_distrib_left}
 use mathlib.Core.List.{List, [], ◌∷◌}
-use Prim.Native.Nat.{ℕ, ◌+◌, ◌-◌, ◌*◌, ◌%◌, ◌^◌, ◌<◌}
-use native.Mathlib.Nat.{one-mul, mod-eq_of_lt}
+use Prim.Native.Nat.{ℕ, ◌+◌, ◌-◌, ◌^◌, ◌<◌}
 use native.Mathlib.Omega.{arith}
 use borrow.Author.Tests.{ne_eqb, lt-ltb, ltb-true}
 use lib.Bits.{bit_and, bit_or}
 use lib.Dec.{eqb, ltb}
-use lib.Pow.{pow-lt}
 use lib.ListN.{length, drop}
+use Rattle.std.specs.Prelude.{None}
 use Rattle.laws.specs.Bit.{on, gather}
 use Rattle.laws.proofs.Truth.{off_on, and_iff}
 use Rattle.laws.proofs.On.{same_bits, on_none}
@@ -18,25 +17,13 @@ use Rattle.laws.proofs.Bitwise.{on_and, on_or}
 use Rattle.laws.proofs.Shift.{on_not, on_pow}
 use Rattle.laws.proofs.Gather.{on_gather, gather_cong}
 use Rattle.laws.proofs.First.{first_some}
-use Rattle.meaning.specs.Limits.{text_limit}
 use Rattle.meaning.specs.Rule.{Variable, var_v, var_w, var_x, var_y, letter, is_variable, Rule, free_in}
 use Rattle.meaning.specs.Refusal.{Unbound}
 use Rattle.meaning.proofs.Reading.Shapes.{got, bad, read_variable, variable_complete}
 use Rattle.spelling.proofs.TwoDigits.{here}
-use Rattle.grammar.specs.declared.letters.Letter.{Letter}
-use Rattle.grammar.specs.declared.letters.Letter.TheVariants.{Place, Other}
 use Rattle.grammar.specs.Letters.{variables, variable_meant, place, Lettered, LetterAt}
-use Rattle.rule.specs.declared.answer.Facts.{Facts}
-use Rattle.rule.specs.declared.answer.Read.{Read}
-use Rattle.rule.specs.Facts.{free_set, end_in, PlaceWithin, LetterWithin}
+use Rattle.rule.specs.Facts.{free_set}
 use Rattle.grammar.proofs.Lettering.{place_low, at_place, same_place}
-
--- so much is known of a letter that is this one, and of a name before it
-pub place_fits : {l : Letter} {k : ℕ} → l ≡ Place k → PlaceWithin l → k < length variables
-place_fits e h = subst PlaceWithin e h
-
-pub letter_fits : {l : Letter} {r : Read} {k : ℕ} {f : Facts} → l ≡ Place k → r ≡ Read.Found f → LetterWithin l (end_in r) → (k < length variables) × (f.end < text_limit)
-letter_fits e d h = subst₂ (λ (x : Letter) (y : Read). LetterWithin x (end_in y)) e d h
 
 -- what the reader of lists finds there
 pub letter_read : (bytes : List ℕ) (at : ℕ) (v : Variable) → Lettered bytes at v → read_variable (drop at bytes) ≡ got v (drop (at + 1) bytes)
@@ -49,16 +36,12 @@ none_read (b ∷ l) none =
     let other : (v : Variable) → eqb b (letter v) ≡ false = λ v. ne_eqb b (letter v) (λ e. none v l (ap (λ (x : ℕ). x ∷ l) e)) in
     simp (other var_v, other var_w, other var_x, other var_y)
 
-pub letter_unread : (bytes : List ℕ) (at : ℕ) → LetterAt bytes at Other → read_variable (drop at bytes) ≡ bad
+pub letter_unread : (bytes : List ℕ) (at : ℕ) → LetterAt bytes at None → read_variable (drop at bytes) ≡ bad
 letter_unread bytes at none = none_read (drop at bytes) none
 
 -- Sets of variables.
 abbrev set_of : (Variable → Bool) → ℕ
 set_of f = gather (length variables) (λ i. f (variable_meant i))
-
--- one alone, as a bit
-pub bit_is : (k : ℕ) → k < length variables → 1 * 2 ^ k % 2 ^ 8 ≡ 2 ^ k
-bit_is k h = rw (one-mul, mod-eq_of_lt (pow-lt {i = k} {j = 8} (omega arith)))
 
 pub alone : (v : Variable) → 2 ^ place v ≡ set_of (is_variable v)
 unfolding gather

@@ -1,14 +1,11 @@
 -- The facts of a rule, and how they come from those of its parts: what the readers' contracts cite.
-use Rattle.std.specs.Prelude.{Bool, true, false, ◌||◌, ℕ, ◌+◌, ◌-◌, ◌^◌, ◌≤◌, ◌<◌, max, length}
+use Rattle.std.specs.Prelude.{Option, Some, None, Bool, true, false, ◌||◌, ℕ, ◌+◌, ◌-◌, ◌^◌, ◌≤◌, ◌<◌, max, length}
 use Rattle.std.specs.Int.Bits.{bit_and, bit_or}
 use Rattle.laws.specs.Bit.{gather}
 use Rattle.meaning.specs.Limits.{text_limit, number_limit, domain_limit}
 use Rattle.meaning.specs.Rule.{Rule, depth, actions_in, fluents_in, backward_in, free_in, varies_in}
 use Rattle.rule.specs.declared.answer.Facts.{Facts}
-use Rattle.rule.specs.declared.answer.Read.{Read}
-use Rattle.grammar.specs.declared.letters.Letter.{Letter}
 use Rattle.grammar.specs.Letters.{variables, variable_meant}
-use Rattle.spelling.specs.declared.Digits.{Digits}
 
 -- the variables that stand free: a bit each, in the order of their letters
 abbrev pub free_set : Rule → ℕ
@@ -26,89 +23,61 @@ facts_of domain end rule = record {
   varies = varies_in rule;
 }
 
-abbrev pub depth_in : Read → ℕ
-depth_in Read.Refused = 0
-depth_in (Read.Found f) = f.depth
+abbrev pub depth_in : Option Facts → ℕ
+depth_in None = 0
+depth_in (Some f) = f.depth
 
-abbrev pub end_in : Read → ℕ
-end_in Read.Refused = 0
-end_in (Read.Found f) = f.end
+abbrev pub end_in : Option Facts → ℕ
+end_in None = 0
+end_in (Some f) = f.end
 
 -- where a number stands: two digits write it, so much may be added to it, and what it ends ends within a text
-abbrev pub NamedWithin : Digits → ℕ → ℕ → Type 0
-NamedWithin Digits.Other more end = Unit {0}
-NamedWithin (Digits.Number n) more end = (n < number_limit) × (more ≤ domain_limit) × (end ≤ text_limit)
+abbrev pub NamedWithin : Option ℕ → ℕ → ℕ → Type 0
+NamedWithin None more end = Unit {0}
+NamedWithin (Some n) more end = (n < number_limit) × (more ≤ domain_limit) × (end ≤ text_limit)
 
 -- where a letter stands: it is that of a variable; and if it stands at a text's place, that one ends within the text
-abbrev pub PlaceWithin : Letter → Type 0
-PlaceWithin Letter.Other = Unit {0}
-PlaceWithin (Letter.Place k) = k < length variables
+abbrev pub PlaceWithin : Option ℕ → Type 0
+PlaceWithin None = Unit {0}
+PlaceWithin (Some k) = k < length variables
 
-abbrev pub LetterWithin : Letter → ℕ → Type 0
-LetterWithin Letter.Other at = Unit {0}
-LetterWithin (Letter.Place k) at = (k < length variables) × (at < text_limit)
+abbrev pub LetterWithin : Option ℕ → ℕ → Type 0
+LetterWithin None at = Unit {0}
+LetterWithin (Some k) at = (k < length variables) × (at < text_limit)
 
-abbrev pub leaf_of : ℕ → Bool → Read
-leaf_of end turn = Read.Found (record { end = end; depth = 1; actions = 0; fluents = 0; backward = turn; free = 0; varies = false })
+abbrev pub leaf_of : ℕ → Bool → Facts
+leaf_of end turn = record { end = end; depth = 1; actions = 0; fluents = 0; backward = turn; free = 0; varies = false }
 
 -- a name, of which the theory must have so many more than its number: one more, or with a variable behind it as many as that has values
-abbrev pub step_of : Digits → ℕ → ℕ → Bool → Read
-step_of Digits.Other more end turn = Read.Refused
-step_of (Digits.Number n) more end turn =
-    Read.Found (record { end = end; depth = 1; actions = n + more; fluents = 0; backward = turn; free = 0; varies = false })
+abbrev pub step_of : Option ℕ → ℕ → ℕ → Bool → Option Facts
+step_of None more end turn = None
+step_of (Some n) more end turn = Some (record (leaf_of end turn) { actions = n + more })
 
-abbrev pub fluent_of : Digits → ℕ → ℕ → Read
-fluent_of Digits.Other more end = Read.Refused
-fluent_of (Digits.Number n) more end =
-    Read.Found (record { end = end; depth = 1; actions = 0; fluents = n + more; backward = false; free = 0; varies = false })
+abbrev pub fluent_of : Option ℕ → ℕ → ℕ → Option Facts
+fluent_of None more end = None
+fluent_of (Some n) more end = Some (record (leaf_of end false) { fluents = n + more })
 
 -- a name with a variable's letter behind it: that one stands free
-abbrev pub lettered_of : Read → Letter → Read
-lettered_of part Letter.Other = Read.Refused
-lettered_of Read.Refused (Letter.Place k) = Read.Refused
-lettered_of (Read.Found f) (Letter.Place k) =
-    Read.Found (record {
-      end = f.end + 1;
-      depth = f.depth;
-      actions = f.actions;
-      fluents = f.fluents;
-      backward = f.backward;
-      free = 2 ^ k;
-      varies = true;
-    })
+abbrev pub lettered_of : Option Facts → Option ℕ → Option Facts
+lettered_of part None = None
+lettered_of None (Some k) = None
+lettered_of (Some f) (Some k) = Some (record f { end = f.end + 1; free = 2 ^ k; varies = true })
 
-abbrev pub above_of : Read → Bool → Read
-above_of Read.Refused turn = Read.Refused
-above_of (Read.Found f) turn =
-    Read.Found (record {
-      end = f.end;
-      depth = f.depth + 1;
-      actions = f.actions;
-      fluents = f.fluents;
-      backward = turn || f.backward;
-      free = f.free;
-      varies = f.varies;
-    })
+abbrev pub above_of : Option Facts → Bool → Option Facts
+above_of None turn = None
+above_of (Some f) turn = Some (record f { depth = f.depth + 1; backward = turn || f.backward })
 
 -- a sign that binds a variable in its part: that one stands free there no more
-abbrev pub bound_of : Letter → Read → Read
-bound_of Letter.Other part = Read.Refused
-bound_of (Letter.Place k) Read.Refused = Read.Refused
-bound_of (Letter.Place k) (Read.Found f) =
-    Read.Found (record {
-      end = f.end;
-      depth = f.depth + 1;
-      actions = f.actions;
-      fluents = f.fluents;
-      backward = f.backward;
-      free = bit_and f.free (2 ^ 8 - 1 - 2 ^ k);
-      varies = true;
-    })
+abbrev pub bound_of : Option ℕ → Option Facts → Option Facts
+bound_of None part = None
+bound_of (Some k) None = None
+bound_of (Some k) (Some f) =
+    Some (record f { depth = f.depth + 1; free = bit_and f.free (2 ^ 8 - 1 - 2 ^ k); varies = true })
 
-abbrev pub beside_of : Facts → Read → Read
-beside_of first Read.Refused = Read.Refused
-beside_of first (Read.Found s) =
-    Read.Found (record {
+abbrev pub beside_of : Facts → Option Facts → Option Facts
+beside_of first None = None
+beside_of first (Some s) =
+    Some (record {
       end = s.end;
       depth = max first.depth s.depth + 1;
       actions = max first.actions s.actions;
@@ -119,12 +88,4 @@ beside_of first (Read.Found s) =
     })
 
 abbrev pub inside_of : Facts → Facts
-inside_of f = record {
-  end = f.end;
-  depth = f.depth;
-  actions = f.actions;
-  fluents = f.fluents;
-  backward = false;
-  free = f.free;
-  varies = f.varies;
-}
+inside_of f = record f { backward = false }

@@ -1,4 +1,5 @@
 pub mod Facts
 pub mod Read
+pub mod Kinds
 pub mod Outcome
 pub mod Judged

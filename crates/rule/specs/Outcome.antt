@@ -1,12 +1,14 @@
 -- What the calls of this crate answer: the rows of refusal that they have, and what goes with an acceptance.
-use Rattle.std.specs.Prelude.{◌≡◌, Bool, true, false, List, [], ◌∷◌, ℕ, ◌+◌, ◌-◌, length, take, drop}
+use Rattle.std.specs.Prelude.{Result, Ok, Err, ◌≡◌, Bool, true, false, List, [], ◌∷◌, ℕ, ◌+◌, ◌-◌, length, take, drop}
 use Rattle.std.specs.Borrow.{Bor}
 use Rattle.meaning.specs.Rule.{test_kind, walk_kind, job_kind, Rule, Opens, text as spelling}
 use Rattle.meaning.specs.Rule as meaning
 use Rattle.meaning.specs.Refusal.{Row, ◌when◌, Answered, BadRule, BadOpening, BadNames, TooDeep, BadJob, Unbound}
 use Rattle.theory.specs.declared.Counts.{Counts}
 use Rattle.theory.specs.Rows.{CountsOut}
+use Rattle.refusal.specs.Number.{number_of}
 use Rattle.rule.specs.declared.Kind.{Kind}
+use Rattle.rule.specs.declared.NoRule.{NoRule}
 
 abbrev pub kind_of : Kind → meaning.Kind
 kind_of Kind.Test = test_kind
@@ -59,6 +61,15 @@ pub record Unread (kind : meaning.Kind) (text part : Bor (List ℕ)) : Type 0 wh
   pub rest : List ℕ
   pub opens : Opens kind text.now rule rest
   pub from : PartAt text (length (spelling rule)) rest part
+
+-- the number and the part that `read_rule` gives: the refusal's number, 0 for none
+abbrev pub number_read : Result (Bor (List ℕ)) NoRule → ℕ
+number_read (Err none) = number_of none.why
+number_read (Ok part) = 0
+
+abbrev pub part_read : Result (Bor (List ℕ)) NoRule → Bor (List ℕ)
+part_read (Err none) = none.rest
+part_read (Ok part) = part
 
 -- what `read_rule` answers; refused, it has "an empty part where a part is handed back"
 abbrev pub ReadAnswered : meaning.Kind → Bor (List ℕ) → Counts → ℕ → Bor (List ℕ) → Type 0

@@ -7,7 +7,7 @@ ghost use Rattle.rule.specs.Outcome.{kind_of, bytes_from, PartAt};
 ghost use Rattle.rule.specs.Judged.{OpenedAs, JudgedAs, SurveyedAs};
 
 use crate::Kind;
-use crate::answer::{Facts, Read};
+use crate::answer::Facts;
 use crate::reader::{read_test, read_walk};
 use grammar::TEXT_LIMIT;
 use positions::PositionSet;
@@ -15,22 +15,14 @@ use refusal::Refusal;
 use theory::Counts;
 use theory::faults::bad_counts;
 
-// What a rule is found to be: refused, or fit, with its facts.
-#[derive(Clone, Copy)]
-pub enum Surveyed {
-    Refused(Refusal),
-    Fits(Facts),
-}
-
-// A job is read as a walk is.
-fn read_kind(text: &[u8], kind: Kind, domain: usize) -> Read
+// Each kind has its reader; a job is read as a walk is.
+fn read_kind(text: &[u8], kind: Kind, domain: usize) -> Option<Facts>
     requires { (length text.now ≤ text_limit) × (domain ≤ domain_limit) }
     ensures { ReadAt (kind_of kind) domain text.now 0 result }
 {
     match kind {
         Kind::Test => read_test(text, 0, domain),
-        Kind::Walk => read_walk(text, 0, domain),
-        Kind::Job => read_walk(text, 0, domain),
+        Kind::Walk | Kind::Job => read_walk(text, 0, domain),
     }
 }
 
@@ -54,82 +46,61 @@ pub(crate) fn nothing<'a>(text: &'a [u8]) -> &'a [u8]
 fn barred(f: Facts, domain: usize) -> bool
     ensures { (result ≡ true) ↔ ((domain ≡ 0) × (f.varies ≡ true)) }
 {
-    if 0 < domain {
-        return false;
-    }
-    f.varies
+    domain == 0 && f.varies
 }
 
 // The rule that opens the text; with `whole`, it fits only when the unread part is empty.
-fn opening(text: &[u8], kind: Kind, domain: usize, whole: bool) -> Read
+fn opening(text: &[u8], kind: Kind, domain: usize, whole: bool) -> Option<Facts>
     requires { domain ≤ domain_limit }
     ensures { OpenedAs whole (kind_of kind) domain text.now result }
 {
     if TEXT_LIMIT < text.len() {
-        return Read::Refused;
+        return None;
     }
-    match read_kind(text, kind, domain) {
-        Read::Refused => Read::Refused,
-        Read::Found(f) => {
-            if barred(f, domain) {
-                return Read::Refused;
-            }
-            let rest = unread(text, f);
-            if whole {
-                if 0 < rest.len() {
-                    return Read::Refused;
-                }
-            }
-            Read::Found(f)
-        }
+    let f = read_kind(text, kind, domain)?;
+    if barred(f, domain) {
+        return None;
     }
+    let rest = unread(text, f);
+    if whole && !rest.is_empty() {
+        return None;
+    }
+    Some(f)
 }
 
 // A job with a backward sign outside every `<` walk.
 fn turned(f: Facts, kind: Kind) -> bool
     ensures { (result ≡ true) ↔ ((kind_of kind ≡ job_kind) × (f.backward ≡ true)) }
 {
-    match kind {
-        Kind::Job => f.backward,
-        Kind::Test => false,
-        Kind::Walk => false,
-    }
+    kind == Kind::Job && f.backward
 }
 
 // Refusals 7, 8, 9 and 13: what the facts of a rule decide, smallest number first.
-fn judge(f: Facts, kind: Kind, counts: Counts) -> Surveyed
+fn judge(f: Facts, kind: Kind, counts: Counts) -> Result<Facts, Refusal>
     ensures { JudgedAs (kind_of kind) counts f result }
 {
-    let fluents = counts.fluents;
-    let actions = counts.actions;
-    if actions < f.actions as usize {
-        return Surveyed::Refused(Refusal::LacksName);
-    }
-    if fluents < f.fluents as usize {
-        return Surveyed::Refused(Refusal::LacksName);
+    if counts.actions < f.actions as usize || counts.fluents < f.fluents as usize {
+        return Err(Refusal::LacksName);
     }
     if PositionSet::DEPTH_LIMIT < f.depth as usize {
-        return Surveyed::Refused(Refusal::TooDeep);
+        return Err(Refusal::TooDeep);
     }
     if turned(f, kind) {
-        return Surveyed::Refused(Refusal::BackwardJob);
+        return Err(Refusal::BackwardJob);
     }
     if 0 < f.free {
-        return Surveyed::Refused(Refusal::Unbound);
+        return Err(Refusal::Unbound);
     }
-    Surveyed::Fits(f)
+    Ok(f)
 }
 
-// All checks of a rule in the order of their numbers; with `whole`, nothing may follow the rule.
-pub(crate) fn survey(text: &[u8], kind: Kind, counts: Counts, whole: bool) -> Surveyed
+// All checks of a rule in the order of their numbers; with `whole`, nothing may follow the rule. What fits is told of by its facts.
+pub(crate) fn survey(text: &[u8], kind: Kind, counts: Counts, whole: bool) -> Result<Facts, Refusal>
     ensures { SurveyedAs whole (kind_of kind) text.now counts result }
 {
     if bad_counts(counts) {
-        return Surveyed::Refused(Refusal::BadNumber);
+        return Err(Refusal::BadNumber);
     }
-    let domain = counts.domain;
-    match opening(text, kind, domain, whole) {
-        Read::Refused => Surveyed::Refused(Refusal::BadRule),
-        Read::Found(f) => judge(f, kind, counts),
-    }
+    let f = opening(text, kind, counts.domain, whole).ok_or(Refusal::BadRule)?;
+    judge(f, kind, counts)
 }

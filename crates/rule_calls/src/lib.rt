@@ -1,11 +1,12 @@
 #![tactic(auto)]
 // The exported functions for one rule's text: thin over a proved call each, they promise what that call promises. A slice is a pointer and a length in C; a number beside the refusal is a lent slot, which
 // is always written. They look at the counts and the domain alone.
-ghost use Rattle.exported.specs.Exported.{counted};
+ghost use Rattle.theory.specs.Subject.{counted};
 ghost use Rattle.rule_calls.specs.Exported.{RestExported, NormalExported};
 
 mod kinds; // kinds.rt: a kind as a number
 
+use exported::told;
 use theory::Counts;
 
 // Where the unread rest of a text begins, behind the rule that opens it.
@@ -20,12 +21,8 @@ pub extern "C" fn wyh_read_rule(
 ) -> u8
     ensures { RestExported kind text.now (counted fluents actions domain) result rest.new }
 {
-    let counts = Counts {
-        fluents,
-        actions,
-        domain,
-    };
-    kinds::read(text, kind, counts, rest)
+    let counts = Counts::of(fluents, actions, domain);
+    told(kinds::rest(text, kind, counts), text.len(), rest)
 }
 
 // The normal form of a rule, at the front of the output.
@@ -41,10 +38,6 @@ pub extern "C" fn wyh_normal(
 ) -> u8
     ensures { NormalExported kind text.now (counted fluents actions domain) out.old result count.new out.new }
 {
-    let counts = Counts {
-        fluents,
-        actions,
-        domain,
-    };
-    kinds::normal(text, kind, counts, out, count)
+    let counts = Counts::of(fluents, actions, domain);
+    told(kinds::normal(text, kind, counts, out), 0, count)
 }

@@ -5,8 +5,8 @@ ghost use Rattle.finish.specs.Answer.{FinishAnswered};
 ghost use Rattle.finish.specs.Next.{NextAnswered};
 ghost use Rattle.exported.specs.Exported.{asked};
 
-use finish::{FinishAnswer, NextAnswer};
-use theory::{Counts, Setting};
+use exported::told;
+use theory::{Asked, Setting};
 
 // The actions that may come next in the job, bit a for action a.
 #[unsafe(no_mangle)]
@@ -23,26 +23,13 @@ pub extern "C" fn wyh_next(
 ) -> u8
     ensures { NextAnswered (asked fluents actions domain start reading masks.now log.now) job.now result next.new }
 {
-    let counts = Counts {
-        fluents,
-        actions,
-        domain,
+    let setting = Setting::of(fluents, actions, domain, start, reading);
+    let asked = Asked {
+        setting,
+        masks,
+        log,
     };
-    let s = Setting {
-        counts,
-        start,
-        reading,
-    };
-    match finish::next(s, masks, log, job) {
-        NextAnswer::Refused(why) => {
-            *next = 0;
-            refusal::number(why)
-        }
-        NextAnswer::Actions(found) => {
-            *next = found;
-            0
-        }
-    }
+    told(finish::next(asked, job), 0, next)
 }
 
 // The first sequence that finishes the job, at the front of the output.
@@ -62,24 +49,11 @@ pub extern "C" fn wyh_finish(
 ) -> u8
     ensures { FinishAnswered (asked fluents actions domain start reading masks.now log.now) job.now more out.old result count.new out.new }
 {
-    let counts = Counts {
-        fluents,
-        actions,
-        domain,
+    let setting = Setting::of(fluents, actions, domain, start, reading);
+    let asked = Asked {
+        setting,
+        masks,
+        log,
     };
-    let s = Setting {
-        counts,
-        start,
-        reading,
-    };
-    match finish::finish(s, masks, log, job, more, out) {
-        FinishAnswer::Refused(why) => {
-            *count = 0;
-            refusal::number(why)
-        }
-        FinishAnswer::Written(n) => {
-            *count = n;
-            0
-        }
-    }
+    told(finish::finish(asked, job, more, out), 0, count)
 }

@@ -7,7 +7,7 @@ use mathlib.Core.List.{List}
 use Prim.Native.Nat.{ℕ, ◌+◌, ◌/◌, ◌%◌, ◌≤◌, ◌<◌}
 use native.Mathlib.Omega.{arith}
 use borrow.Author.Tests.{eq-eqb, ne_eqb}
-use lib.ListN.{length, get_or, set, length-set, length-drop}
+use lib.ListN.{length, get_or, set, length-set}
 use lib.Seq.{get_or-set_same, get_or-set_other}
 use Rattle.laws.proofs.Truth.{off_on}
 use Rattle.meaning.specs.Theory.{World, Values, stands_for, with_value, no_values, number_of, revalue, bind, inside}
@@ -20,7 +20,7 @@ use Rattle.meaning.proofs.Onward.{neither}
 use Rattle.meaning.proofs.Variables.{variable_itself, value_given, value_over, Apart, one_or_apart}
 use Rattle.meaning.proofs.Written.{leads_idle}
 use Rattle.meaning.specs.Limits.{number_limit}
-use Rattle.spelling.specs.declared.Digits.TheVariants.{Number}
+use Rattle.std.specs.declared.option.Option.TheVariants.{Some}
 use Rattle.spelling.specs.Scan.{NumberAt}
 use Rattle.theory.specs.Subject.{reading_of}
 use Rattle.tables.proofs.Transposed.{described_bound, described_owning}
@@ -104,18 +104,12 @@ tabled_earlier t low = record { described = t.described; logged = omega (arith, 
 pub letter_byte : (bytes : List ℕ) (at : ℕ) (v : Variable) → Lettered bytes at v → get_or bytes at 0 ≡ letter v
 letter_byte bytes at v h = byte bytes at h
 
-pub letter_within : (bytes : List ℕ) (at : ℕ) (v : Variable) → Lettered bytes at v → at < length bytes
-letter_within bytes at v h = omega (arith, length-drop at bytes, ap length h)
-
-pub letter_place : (bytes : List ℕ) (at : ℕ) (v : Variable) → Lettered bytes at v → get_or bytes at 0 ≡ 118 + place v
-letter_place bytes at v h = letter_byte bytes at v h ∙ letter_is v
-
 -- The parts of the rule that stands at a place, and where they stand; of a name, where its number and its letter do.
 unfoldable Parts : List ℕ → ℕ → Rule → Type 0
-Parts bytes at (of_walk (act (plain a))) = NumberAt bytes (at + 1) (Number a)
-Parts bytes at (of_walk (act (plus a v))) = NumberAt bytes (at + 1) (Number a) × Lettered bytes (at + 3) v
-Parts bytes at (of_walk (undo (plain a))) = NumberAt bytes (at + 1) (Number a)
-Parts bytes at (of_walk (undo (plus a v))) = NumberAt bytes (at + 1) (Number a) × Lettered bytes (at + 3) v
+Parts bytes at (of_walk (act (plain a))) = NumberAt bytes (at + 1) (Some a)
+Parts bytes at (of_walk (act (plus a v))) = NumberAt bytes (at + 1) (Some a) × Lettered bytes (at + 3) v
+Parts bytes at (of_walk (undo (plain a))) = NumberAt bytes (at + 1) (Some a)
+Parts bytes at (of_walk (undo (plus a v))) = NumberAt bytes (at + 1) (Some a) × Lettered bytes (at + 3) v
 Parts bytes at (of_walk next) = Unit {0}
 Parts bytes at (of_walk prev) = Unit {0}
 Parts bytes at (of_walk (seq v x)) = Stands bytes (at + 1) (of_walk v) × Stands bytes (at + 1 + length (walk_text v)) (of_walk x)
@@ -125,8 +119,8 @@ Parts bytes at (of_walk (check t)) = Stands bytes (at + 1) (of_test t)
 Parts bytes at (of_walk (conv x)) = Stands bytes (at + 1) (of_walk x)
 Parts bytes at (of_walk (pick v x)) = Lettered bytes (at + 1) v × Stands bytes (at + 2) (of_walk x)
 Parts bytes at (of_test always) = Unit {0}
-Parts bytes at (of_test (fluent (plain i))) = NumberAt bytes (at + 1) (Number i)
-Parts bytes at (of_test (fluent (plus i v))) = NumberAt bytes (at + 1) (Number i) × Lettered bytes (at + 3) v
+Parts bytes at (of_test (fluent (plain i))) = NumberAt bytes (at + 1) (Some i)
+Parts bytes at (of_test (fluent (plus i v))) = NumberAt bytes (at + 1) (Some i) × Lettered bytes (at + 3) v
 Parts bytes at (of_test (neg t)) = Stands bytes (at + 1) (of_test t)
 Parts bytes at (of_test (both t u)) = Stands bytes (at + 1) (of_test t) × Stands bytes (at + 1 + length (test_text t)) (of_test u)
 Parts bytes at (of_test (diamond x t)) = Stands bytes (at + 1) (of_walk x) × Stands bytes (at + 1 + length (walk_text x)) (of_test t)
@@ -176,7 +170,7 @@ module _ (bytes ends : List ℕ) (v : Variable) (to : ℕ) where
   over_byte i b e walk test low c = over i low c (λ r. ⊎_elim (λ k. walk (sym e ∙ k)) (λ k. test (sym e ∙ k)) r.0)
 
   -- by the two digits of a number
-  over_number : (i n : ℕ) → NumberAt bytes i (Number n) → i + 2 ≤ to → Free i → Free (i + 2)
+  over_number : (i n : ℕ) → NumberAt bytes i (Some n) → i + 2 ≤ to → Free i → Free (i + 2)
   over_number i n d low c =
       let small : n < number_limit = d.0 in
       let one = (over_byte i (48 + n / 10) (number_tens bytes i n d) (λ e. omega (arith, e)) (λ e. omega (arith, e)) (omega arith) c).1 in
@@ -190,11 +184,11 @@ module _ (bytes ends : List ℕ) (v : Variable) (to : ℕ) where
       (ne_eqb (letter u) (letter v) (λ e. lacks (letter_byte bytes i u l ∙ e)), c')
 
   -- by a name: the sign, the number, and the letter behind that
-  over_plain : (i b n : ℕ) → get_or bytes i 0 ≡ b → (b ≡ 112 → ⊥) → (b ≡ 101 → ⊥) → NumberAt bytes (i + 1) (Number n) → i + 3 ≤ to → Free i → Free (i + 3)
+  over_plain : (i b n : ℕ) → get_or bytes i 0 ≡ b → (b ≡ 112 → ⊥) → (b ≡ 101 → ⊥) → NumberAt bytes (i + 1) (Some n) → i + 3 ≤ to → Free i → Free (i + 3)
   over_plain i b n e walk test d low c =
       moved (i + 1 + 2) (i + 3) (omega arith) (over_number (i + 1) n d (omega arith) (over_byte i b e walk test (omega arith) c).1)
 
-  over_sum : (i b n : ℕ) (u : Variable) → get_or bytes i 0 ≡ b → (b ≡ 112 → ⊥) → (b ≡ 101 → ⊥) → NumberAt bytes (i + 1) (Number n) × Lettered bytes (i + 3) u → i + 4 ≤ to
+  over_sum : (i b n : ℕ) (u : Variable) → get_or bytes i 0 ≡ b → (b ≡ 112 → ⊥) → (b ≡ 101 → ⊥) → NumberAt bytes (i + 1) (Some n) × Lettered bytes (i + 3) u → i + 4 ≤ to
       → Free i → (is_variable u v ≡ false) × Free (i + 4)
   over_sum i b n u e walk test d low c =
       let (apart, c') = over_letter (i + 3) u d.1 (omega arith) (over_plain i b n e walk test d.0 (omega arith) c) in
@@ -370,9 +364,6 @@ asks_idle may w v k at (pick u x) e p n a =
 
 -- How many values a binder goes over.
 module _ (bytes : List ℕ) (at : ℕ) where
-  pub all_turns : (domain : ℕ) → Turns bytes at domain domain
-  all_turns domain = record { low = omega arith; enough = λ v part l s. inl refl }
-
   pub one_turn : {ends : List ℕ} {domain end : ℕ} → 1 ≤ domain → BinderHere bytes at end → Ends bytes ends → Clean bytes ends (get_or bytes (at + 1) 0) end (at + 2)
       → Turns bytes at domain 1
   one_turn {ends} some here m c = record {

@@ -8,7 +8,7 @@ use native.Mathlib.Omega.{arith}
 use native.Mathlib.Decide.{dec_lt}
 use lib.ListN.{length, get_or, get_or-eq_default}
 use Rattle.meaning.specs.Rule.{Variable, Walk, Test, Rule, of_walk, of_test, text}
-use Rattle.spelling.specs.declared.Digits.TheVariants.{Number}
+use Rattle.std.specs.declared.option.Option.TheVariants.{Some}
 use Rattle.spelling.specs.Scan.{NumberAt}
 use Rattle.grammar.specs.Letters.{Lettered}
 use Rattle.grammar.specs.Standing.{Stands, Ends, Leaf}
@@ -75,7 +75,7 @@ binder {bytes} {ends} {at} m v x l p end read =
     }
 
 -- a number with a variable's letter behind it
-pub sum_here : (bytes : List ℕ) (at n : ℕ) (v : Variable) → NumberAt bytes (at + 1) (Number n) → Lettered bytes (at + 3) v → SumHere bytes (at + 1)
+pub sum_here : (bytes : List ℕ) (at n : ℕ) (v : Variable) → NumberAt bytes (at + 1) (Some n) → Lettered bytes (at + 3) v → SumHere bytes (at + 1)
 sum_here bytes at n v d l =
     let same : at + 3 ≡ at + 1 + 2 = omega arith in
     record { number = n; digits = d; letter = record { variable = v; stands = subst (λ (i : ℕ). Lettered bytes i v) same l } }

@@ -16,7 +16,7 @@ use Rattle.meaning.specs.Rule.{Variable, plain, plus, Walk, Test, of_walk, of_te
 use Rattle.meaning.specs.Leads.{Holds}
 use Rattle.tables.specs.Tables.{action_rows, fluent_rows, possible_row, row_holds, among_holds, action_holds, fluent_holds}
 use Rattle.runs.specs.Image.{Set, UpTo, Image, Sifted, Turn, Way, Crossing}
-use Rattle.spelling.specs.declared.Digits.TheVariants.{Number}
+use Rattle.std.specs.declared.option.Option.TheVariants.{Some}
 use Rattle.spelling.specs.Scan.{NumberAt}
 use Rattle.grammar.specs.Letters.{Lettered}
 use Rattle.grammar.specs.Standing.{Leaf}
@@ -28,12 +28,12 @@ use Rattle.runs.proofs.Calls.{NoSign, sum_here}
 
 -- the set is the row that the sign there names, among so many from a first one on
 abbrev pub RowOf : List ℕ → ℕ → List ℕ → ℕ → ℕ → Set → Type 0
-RowOf bytes at rows first many c = (n q : ℕ) → NumberAt bytes (at + 1) (Number n) → c q ≡ among_holds rows first many n q
+RowOf bytes at rows first many c = (n q : ℕ) → NumberAt bytes (at + 1) (Some n) → c q ≡ among_holds rows first many n q
 
 -- the set is the row that the number there and the variable behind it name
 abbrev pub SumRowOf : List ℕ → ℕ → List ℕ → List ℕ → ℕ → ℕ → Set → Type 0
 SumRowOf bytes at rows bound first many c =
-    (n q : ℕ) (v : Variable) → NumberAt bytes (at + 1) (Number n) → Lettered bytes (at + 1 + 2) v → c q ≡ among_holds rows first many (n + value_in bound v) q
+    (n q : ℕ) (v : Variable) → NumberAt bytes (at + 1) (Some n) → Lettered bytes (at + 1 + 2) v → c q ≡ among_holds rows first many (n + value_in bound v) q
 
 -- the set is the row of the steps that were possible
 abbrev pub PossibleOf : List ℕ → Set → Type 0
@@ -100,7 +100,7 @@ module _ {bytes : List ℕ} {at : ℕ} (h : LeafHere bytes at) where
 moved : (bytes : List ℕ) (at : ℕ) (v : Variable) → Lettered bytes (at + 3) v → Lettered bytes (at + 1 + 2) v
 moved bytes at v l = let same : at + 3 ≡ at + 1 + 2 = omega arith in subst (λ (i : ℕ). Lettered bytes i v) same l
 
-sum_row : {w : World} {rows bound : List ℕ} {n : ℕ} (bytes : List ℕ) (at : ℕ) (tabled : Tabled w rows bound n) (c : Set) (a : ℕ) (v : Variable) → NumberAt bytes (at + 1) (Number a)
+sum_row : {w : World} {rows bound : List ℕ} {n : ℕ} (bytes : List ℕ) (at : ℕ) (tabled : Tabled w rows bound n) (c : Set) (a : ℕ) (v : Variable) → NumberAt bytes (at + 1) (Some a)
     → Lettered bytes (at + 3) v → SumRowOf bytes at rows bound action_rows action_limit c → Done w (number_in w (plus a v)) n c
 sum_row {w} {rows} bytes at tabled c a v d l row =
     action_row tabled c (number_in w (plus a v)) (λ q. row a q v d (moved bytes at v l) ∙ ap (λ (i : ℕ). action_holds rows i q) (summed tabled a v))

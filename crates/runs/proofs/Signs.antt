@@ -13,7 +13,7 @@ use Rattle.meaning.specs.Limits.{action_limit}
 use Rattle.meaning.specs.Theory.{World, number_in}
 use Rattle.meaning.specs.Rule.{Variable, plain, plus, Walk, Rule, of_walk}
 use Rattle.runs.specs.Image.{Set}
-use Rattle.spelling.specs.declared.Digits.TheVariants.{Number}
+use Rattle.std.specs.declared.option.Option.TheVariants.{Some}
 use Rattle.spelling.specs.Scan.{NumberAt}
 use Rattle.grammar.specs.Signs.{is_of}
 use Rattle.grammar.specs.Letters.{Lettered}
@@ -42,7 +42,7 @@ sum_number {bytes} {at = at} h sign = go (spread h.stands 98 sign)
 
 module _ {may : ℕ → Bool} {bytes : List ℕ} {at : ℕ} {rows bound : List ℕ} {n : ℕ} {from : Set} where
   -- `aNN`
-  pub act_found : (these : ℕ) {ready : Bool} {r : ℕ} → ready ≡ may at → get_or bytes at 0 ≡ 97 → ((b : ℕ) → NumberAt bytes (at + 1) (Number b) → (a : ℕ) → a < action_limit → on these a ≡ eqb a b)
+  pub act_found : (these : ℕ) {ready : Bool} {r : ℕ} → ready ≡ may at → get_or bytes at 0 ≡ 97 → ((b : ℕ) → NumberAt bytes (at + 1) (Some b) → (a : ℕ) → a < action_limit → on these a ≡ eqb a b)
       → r ≡ cond (ready && from n) these 0 → AskFound may bytes at rows bound n from r
   act_found these {r = r} same sign bit e = record { found = λ w tabled low x h. go w (spread h 97 sign) }
     where
@@ -51,7 +51,7 @@ module _ {may : ℕ → Bool} {bytes : List ℕ} {at : ℕ} {rows bound : List �
 
   -- `bNNv`
   pub sum_found : (these : ℕ) {ready : Bool} {r : ℕ} → ready ≡ may at → get_or bytes at 0 ≡ 98
-      → ((b : ℕ) (v : Variable) → NumberAt bytes (at + 1) (Number b) → Lettered bytes (at + 3) v → (a : ℕ) → a < action_limit → on these a ≡ eqb a (b + value_in bound v))
+      → ((b : ℕ) (v : Variable) → NumberAt bytes (at + 1) (Some b) → Lettered bytes (at + 3) v → (a : ℕ) → a < action_limit → on these a ≡ eqb a (b + value_in bound v))
       → r ≡ cond (ready && from n) these 0 → AskFound may bytes at rows bound n from r
   sum_found these {r = r} same sign bit e = record { found = λ w tabled low x h. go w tabled (spread h 98 sign) }
     where

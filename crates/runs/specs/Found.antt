@@ -1,6 +1,6 @@
 -- What the evaluator's functions ask of a place of the text, and what they answer. An answer is right for every world that the rows describe and every
 -- rule that stands at the place.
-use Rattle.std.specs.Prelude.{◌≡◌, ◌↔◌, Bool, true, List, ℕ, ◌≤◌, ◌<◌, length}
+use Rattle.std.specs.Prelude.{Some, ◌≡◌, ◌↔◌, Bool, true, List, ℕ, ◌≤◌, ◌<◌, length}
 use Rattle.laws.specs.Bit.{on}
 use Rattle.meaning.specs.Limits.{log_limit, action_limit}
 use Rattle.meaning.specs.Theory.{World}
@@ -8,7 +8,6 @@ use Rattle.meaning.specs.Rule.{Walk, Test, of_walk, of_test}
 use Rattle.meaning.specs.Leads.{Holds}
 use Rattle.meaning.specs.Asks.{AsksAt}
 use Rattle.tables.specs.Tables.{Describes}
-use Rattle.spelling.specs.declared.Digits.TheVariants.{Number}
 use Rattle.spelling.specs.Scan.{NumberAt}
 use Rattle.runs.specs.Values.{Bears}
 use Rattle.runs.specs.Image.{Set, UpTo, Image, Sifted, Way}
@@ -33,7 +32,7 @@ pub record LeafHere (bytes : List ℕ) (at : ℕ) : Type 0 where
 -- the two digits of some number stand at the place
 pub record Numbered (bytes : List ℕ) (at : ℕ) : Type 0 where
   pub number : ℕ
-  pub digits : NumberAt bytes at (Number number)
+  pub digits : NumberAt bytes at (Some number)
 
 -- the rows are this world's, its log is no longer than a log may be, now is not past it, and so the variables stand
 pub record Tabled (w : World) (rows bound : List ℕ) (now : ℕ) : Type 0 where

@@ -1,10 +1,9 @@
 -- What the evaluator is given beside the log: the values that `v`, `w`, `x`, `y` stand for, behind them how many values there are ("Values are 0 to NN-1"), and
 -- behind that how a walk's own tests are read and how those inside a `<` are, as a list of seven numbers. Knows the letters' order, and no rule's meaning.
-use Rattle.std.specs.Prelude.{◌≡◌, ◌⊎◌, false, List, [], ◌∷◌, ℕ, ◌+◌, ◌≤◌, ◌<◌, length, get_or, set}
+use Rattle.std.specs.Prelude.{Some, ◌≡◌, ◌⊎◌, false, List, [], ◌∷◌, ℕ, ◌+◌, ◌≤◌, ◌<◌, length, get_or, set}
 use Rattle.meaning.specs.Theory.{World, stands_for}
 use Rattle.meaning.specs.Rule.{Variable, Rule, text, free_in}
 use Rattle.theory.specs.Subject.{reading_of}
-use Rattle.spelling.specs.declared.Digits.TheVariants.{Number}
 use Rattle.spelling.specs.Scan.{NumberAt}
 use Rattle.grammar.specs.Letters.{variables, place, Lettered}
 use Rattle.grammar.specs.Standing.{Stands}
@@ -48,7 +47,7 @@ pub record LetterHere (bytes : List ℕ) (at : ℕ) : Type 0 where
 -- the two digits of some number stand at the place, and the letter of some variable behind them
 pub record SumHere (bytes : List ℕ) (at : ℕ) : Type 0 where
   pub number : ℕ
-  pub digits : NumberAt bytes at (Number number)
+  pub digits : NumberAt bytes at (Some number)
   pub letter : LetterHere bytes (at + 2)
 
 -- the letter of a binder stands behind the place, and what stands behind that ends there

@@ -1,5 +1,5 @@
 -- Laws of reading the lines of the actions one below the other: what the table has, and which lines are still to come.
-use mathlib.Core.Path.{◌≡◌, refl, sym, ap, ◌∙◌, subst, subst₂}
+use mathlib.Core.Path.{◌≡◌, sym, ap, ◌∙◌, subst, subst₂}
 use mathlib.Core.List.{List, ◌++◌}
 use Prim.Native.Nat.{ℕ, suc, ◌+◌, ◌-◌, ◌*◌, ◌≤◌, ◌<◌}
 use native.Mathlib.Nat.{mul-suc, mul-le-mul_left, mul-le-mul_right}
@@ -8,9 +8,7 @@ use native.Mathlib.Omega.{arith}
 use lib.ListN.{length, take, drop}
 use lib.Seq.{take-add, take_at, drop_at, drop-drop}
 use Rattle.meaning.specs.Refusal.{Refused}
-use Rattle.meaning.specs.Theory.{stride}
 use Rattle.meaning.specs.Four.{plain_stride}
-use Rattle.theory.specs.Subject.{setting_of}
 use Rattle.theory.specs.Plain.{plain_rows}
 use Rattle.theory.proofs.Plain.{rows_long, rows_front}
 use Rattle.sheet_lines.specs.Versions.{Usable, table_of}
@@ -23,11 +21,10 @@ use Rattle.sheet.specs.Onward.{Onward}
 use Rattle.sheet.specs.Sections.{masks_in, ActsAre, table_in, TableIs}
 use Rattle.sheet_lines.specs.declared.Cursor.{Cursor}
 use Rattle.sheet.specs.declared.Head.{Head}
-use Rattle.sheet_lines.specs.declared.Version.{Version}
 use Rattle.sheet_lines.proofs.VersionRows.{few_masks}
-use Rattle.sheet_lines.proofs.Widen.{table_plain, table_same}
+use Rattle.sheet_lines.proofs.Widen.{table_plain}
 use Rattle.sheet_lines.proofs.Below.{below_line}
-use Rattle.sheet.proofs.Order.{stays, goes_on, past_line, at_line}
+use Rattle.sheet.proofs.Order.{goes_on, past_line, at_line}
 
 -- how many masks the first actions have
 abbrev pub masks_of : Head → ℕ → ℕ
@@ -41,10 +38,6 @@ pub row_within : (h : Head) (a : ℕ) → a < h.setting.counts.actions → masks
 row_within h a l =
     let most : masks_of h (a + 1) ≤ masks_in h = mul-le-mul_left h.version.masks (omega arith) in
     omega (arith, next_row h a, most)
-
--- a head with these counts, whatever its domain, its start state and its reading are
-abbrev pub head_by : Version → ℕ → ℕ → Cursor → ℕ → ℕ → ℕ → Head
-head_by v fluents actions last domain start reading = record { version = v; setting = setting_of fluents actions domain start reading; last = last }
 
 -- the lines that are still to come after some actions, which left this table
 abbrev to_come : Head → List ℕ → ℕ → Lines
@@ -62,20 +55,6 @@ pub record Acts (bytes : List ℕ) (h : Head) (entry table : List ℕ) (a : ℕ)
   pub below : Below bytes last
   pub back : drop (masks_of h a) table ≡ drop (masks_of h a) entry
   pub onward : Leads bytes h (take (masks_of h a) table) (h.setting.counts.actions - a) (last.end + 1) (last.line + 1)
-
-pub acts_none : (bytes : List ℕ) (h : Head) (table : List ℕ) → Below bytes h.last → Acts bytes h table table 0 h.last
-acts_none bytes h table below =
-    let all : h.setting.counts.actions ≡ h.setting.counts.actions - 0 = omega arith in
-    let none : 0 ≡ masks_of h 0 = omega arith in
-    record {
-      few = omega arith;
-      long = refl;
-      below = below;
-      back = refl;
-      onward =
-          subst₂ (λ (n k : ℕ). Leads bytes h (take k table) n (h.last.end + 1) (h.last.line + 1)) all none
-          (stays (from_acts h.version h.setting) bytes (h.last.end + 1) (h.last.line + 1));
-    }
 
 module _ (bytes : List ℕ) (h : Head) (entry table : List ℕ) (a : ℕ) (last : Cursor) (read : Acts bytes h entry table a last)
     (more : a < h.setting.counts.actions) where
@@ -179,8 +158,3 @@ module _ (bytes : List ℕ) (h : Head) (entry exit : List ℕ) (c : Cursor) (rea
       ∙ ap (λ (n : ℕ). plain_rows (take n exit) 0 actions) count
       ∙ rows_front exit actions 0 actions (omega arith)
       ∙ sym (ap (take (table_in h)) w ∙ take_at rows rest (table_in h) long))
-
-  pub table_kept : h.version.masks ≡ stride → TableIs bytes h entry exit c
-  table_kept e =
-      let count : masks_in h ≡ table_in h = ap (λ (n : ℕ). n * actions) e in
-      tabled exit refl (omega arith) (table_same h.version actions (take (masks_in h) exit) e ∙ ap (λ (n : ℕ). take n exit) count)

@@ -15,8 +15,9 @@ use Rattle.sheet_lines.specs.Versions.{version_meant, table_of}
 use Rattle.sheet_lines.specs.declared.Version.{Version}
 use Rattle.theory.specs.declared.Counts.{Counts}
 use Rattle.sheet.specs.Answer.{parsed_of, fronted, SheetAnswered}
-use Rattle.sheet.specs.declared.SheetAnswer.{SheetAnswer}
-use Rattle.sheet.specs.declared.SheetAnswer.TheVariants.{Faulty, Read}
+use Rattle.std.specs.Prelude.{Result, Ok, Err}
+use Rattle.sheet.specs.declared.Parsed.{Parsed}
+use Rattle.sheet_lines.specs.declared.Fault.{Fault}
 use Rattle.sheet_lines.proofs.Rows.{Clear, one_said}
 use Rattle.sheet_lines.proofs.Forms.{number_clear, start_clear, act_clear, log_clear, now_clear, rule_clear}
 
@@ -128,17 +129,17 @@ refused_or_says bytes n p s (inr f) g = not_both lines_of_sheet sheet_clear byte
 
 -- Two outcomes that the contract of `read_sheet` allows are equal: the answer and the final content of both lent tables.
 pub read_sheet_determined :
-    (bytes masks log : List ℕ) (r r' : SheetAnswer) (m m' l l' : List ℕ) → SheetAnswered bytes masks log r m l
+    (bytes masks log : List ℕ) (r r' : Result Parsed Fault) (m m' l l' : List ℕ) → SheetAnswered bytes masks log r m l
     → SheetAnswered bytes masks log r' m' l' → (r ≡ r') × (m ≡ m') × (l ≡ l')
-read_sheet_determined bytes masks log (Faulty f) (Faulty g) m m' l l' x y =
+read_sheet_determined bytes masks log (Err f) (Err g) m m' l l' x y =
     let same = one_refusal bytes _ _ _ _ x.refused y.refused in
     let why = one_number f.refusal g.refusal same.0 in
-    (λ i. Faulty (record { refusal = why i; line = same.1 i }), x.kept ∙ sym y.kept, x.kept_log ∙ sym y.kept_log)
-read_sheet_determined bytes masks log (Faulty f) (Read p) m m' l l' x y = absurd (refused_or_says bytes _ _ _ x.refused y.says)
-read_sheet_determined bytes masks log (Read p) (Faulty f) m m' l l' x y = absurd (refused_or_says bytes _ _ _ y.refused x.says)
-read_sheet_determined bytes masks log (Read p) (Read q) m m' l l' x y =
+    (λ i. Err (record { refusal = why i; line = same.1 i }), x.kept ∙ sym y.kept, x.kept_log ∙ sym y.kept_log)
+read_sheet_determined bytes masks log (Err f) (Ok p) m m' l l' x y = absurd (refused_or_says bytes _ _ _ x.refused y.says)
+read_sheet_determined bytes masks log (Ok p) (Err f) m m' l l' x y = absurd (refused_or_says bytes _ _ _ y.refused x.says)
+read_sheet_determined bytes masks log (Ok p) (Ok q) m m' l l' x y =
     let same = one_saying bytes x.sheet y.sheet x.says y.says in (
-      ap Read (x.told ∙ ap parsed_of same ∙ sym y.told),
+      ap Ok (x.told ∙ ap parsed_of same ∙ sym y.told),
       x.filled ∙ ap (λ s. fronted s.subject.masks masks) same ∙ sym y.filled,
       x.logged ∙ ap (λ s. fronted s.subject.log log) same ∙ sym y.logged,
     )

@@ -1,175 +1,98 @@
--- Laws of the lines below those of the actions: each adds what it says to what the lines above say, and what is found below it is found of it.
-use mathlib.Core.Path.{◌≡◌, refl, sym, ap, ◌∙◌, subst}
-use mathlib.Core.Bool.{Bool, true, false}
+-- Laws of the lines below those of the actions: each leads on to the next, and adds what it says to what the lines above say.
+use mathlib.Core.Path.{◌≡◌, refl, sym, ap, ◌∙◌}
 use mathlib.Core.List.{List}
 use Prim.Native.Nat.{ℕ, ◌+◌, ◌≤◌}
 use native.Mathlib.Omega.{arith}
 use lib.ListN.{length, take, drop}
 use lib.Seq.{length-take-le}
-use Rattle.theory.specs.Subject.{Subject}
+use Rattle.std.specs.Prelude.{Ok}
+use Rattle.theory.specs.declared.Setting.{Setting}
 use Rattle.spelling.specs.Scan.{stretch}
 use Rattle.spelling.proofs.Stretch.{length_stretch}
 use Rattle.sheet_lines.specs.Forms.{log_form, now_form, ask_form, run_form, more_form}
-use Rattle.sheet.specs.Lines.{Sheet, Lines, none, and_log, and_reading, with_ask, with_run, with_more, from_more, from_run, from_ask, now_then, from_now, from_log}
 use Rattle.sheet_lines.specs.Found.{CursorAt, Accepts}
-use Rattle.sheet.specs.Answer.{parsed_of, as_read, fronted}
-use Rattle.sheet.specs.Onward.{Onward}
-use Rattle.sheet.specs.Sections.{SheetFound, LogFound}
 use Rattle.sheet_lines.specs.declared.Cursor.{Cursor}
-use Rattle.sheet.specs.declared.Parsed.{Parsed}
-use Rattle.sheet.specs.declared.SheetAnswer.{SheetAnswer}
-use Rattle.sheet.specs.declared.SheetAnswer.TheVariants.{Faulty, Read}
 use Rattle.sheet_lines.specs.declared.Stretch.{Stretch}
 use Rattle.sheet_lines.specs.declared.Version.{Version}
-use Rattle.sheet.proofs.Order.{past_cursor, past_line, all_read}
+use Rattle.sheet.specs.Lines.{Sheet, Lines, none, opened, and_log, and_reading, with_ask, with_run, with_more, from_more, from_run, from_ask, from_now, from_log}
+use Rattle.sheet.specs.Answer.{placed, fronted}
+use Rattle.sheet.specs.Onward.{Onward}
+use Rattle.sheet.specs.Sections.{ReadIf, LogIs}
+use Rattle.sheet.proofs.Order.{past_cursor, next_line, next_if, all_read}
 use Rattle.sheet.proofs.Whole.{front_written}
 
--- what is found from a line on is what is found from a line above
-sheet_found :
-    {whole rest : Lines} {bytes : List ℕ} {at line at' line' : ℕ} (subject : Subject) → Onward whole bytes at line rest at' line' → (answer : SheetAnswer)
-    → SheetFound rest bytes at' line' subject answer → SheetFound whole bytes at line subject answer
-sheet_found subject on (Faulty f) m = on.faults _ _ m
-sheet_found subject on (Read p) m =
-    record { sheet = m.sheet; reads = on.reads _ m.reads; told = m.told; about = m.about; logged = m.logged }
-
--- where a value ends
-ends : {key bytes : List ℕ} {at line : ℕ} {c : Cursor} → CursorAt key bytes at line c → c.end ≡ c.start + length (stretch bytes c.start c.end)
-ends {bytes = bytes} {c = c} s =
-    let long = length_stretch bytes c.start c.end (omega (arith, s.within)) in
-    omega (arith, s.onward, long)
-
--- the stretch of a cursor
+-- the stretch of a cursor, and where its value stands
 abbrev pub value_of : Cursor → Stretch
 value_of c = record { start = c.start; end = c.end }
 
 abbrev pub text_of : List ℕ → Cursor → List ℕ
 text_of bytes c = stretch bytes c.start c.end
 
-module _ (bytes : List ℕ) (at line : ℕ) (said : Parsed) (c : Cursor) (s : Sheet) (e : said ≡ parsed_of s) where
-  -- the last line, and nothing follows it; or bytes do
-  pub more_read :
-      Accepts more_form bytes at line c.number c → length bytes ≤ c.end + 1
-      → SheetFound (from_more s) bytes at line s.subject
-      (Read (record { setting = said.setting; steps = said.steps; ask = said.ask; run = said.run; more = c.number }))
-  more_read acc last =
-      record {
-        sheet = with_more s c.number;
-        reads =
-            (past_line more_form bytes at line (λ more at. none (with_more s more)) c.number c acc).reads _
-            (all_read bytes (c.end + 1) (with_more s c.number) last);
-        told = ap (λ (p : Parsed). record { setting = p.setting; steps = p.steps; ask = p.ask; run = p.run; more = c.number }) e;
-        about = refl;
-        logged = refl;
-      }
+value_placed : {key bytes : List ℕ} {at line : ℕ} {c : Cursor} → CursorAt key bytes at line c → value_of c ≡ placed c.start (text_of bytes c)
+value_placed {bytes = bytes} {c = c} s =
+    let long = length_stretch bytes c.start c.end (omega (arith, s.within)) in
+    let ends : c.end ≡ c.start + length (text_of bytes c) = omega (arith, s.onward, long) in
+    λ i. record { start = c.start; end = ends i }
 
-  -- the job
-  pub read_of_run :
-      (answer : SheetAnswer) → Accepts (run_form said.setting.counts) bytes at line (text_of bytes c) c
-      → ((s : Sheet) → record { setting = said.setting; steps = said.steps; ask = said.ask; run = value_of c; more = said.more } ≡ parsed_of s
-      → SheetFound (from_more s) bytes (c.end + 1) (c.line + 1) s.subject answer)
-      → SheetFound (from_run s) bytes at line s.subject answer
-  read_of_run answer acc below =
-      let job = subst (λ (p : Parsed). Accepts (run_form p.setting.counts) bytes at line (text_of bytes c) c) e acc in
-      sheet_found s.subject
-      (past_cursor (run_form s.subject.setting.counts) bytes at line (λ run at. from_more (with_run s run at)) (text_of bytes c) c job)
-      answer
-      (below (with_run s (text_of bytes c) c.start)
-      (λ i.
-      record {
-        setting = (e i).setting;
-        steps = (e i).steps;
-        ask = (e i).ask;
-        run = record { start = c.start; end = ends acc.stands i };
-        more = (e i).more;
-      }))
+module _ (bytes : List ℕ) (v : Version) (setting : Setting) (masks : List ℕ) (above : Cursor) (log : List ℕ) (steps : Cursor)
+    (logged : Accepts (log_form v setting.counts.actions) bytes (above.end + 1) (above.line + 1) log steps) where
+  -- the log and the lines below it are read down to this cursor, and these lines come next
+  abbrev Leads : Lines → Cursor → Type 0
+  Leads rest c = Onward (from_log v (opened setting masks)) bytes (above.end + 1) (above.line + 1) rest (c.end + 1) (c.line + 1)
 
-  -- what is asked
-  pub ask_read :
-      (answer : SheetAnswer) → Accepts (ask_form said.setting.counts) bytes at line (text_of bytes c) c
-      → ((s : Sheet) → record { setting = said.setting; steps = said.steps; ask = value_of c; run = said.run; more = said.more } ≡ parsed_of s
-      → SheetFound (from_run s) bytes (c.end + 1) (c.line + 1) s.subject answer)
-      → SheetFound (from_ask s) bytes at line s.subject answer
-  ask_read answer acc below =
-      let asked = subst (λ (p : Parsed). Accepts (ask_form p.setting.counts) bytes at line (text_of bytes c) c) e acc in
-      sheet_found s.subject
-      (past_cursor (ask_form s.subject.setting.counts) bytes at line (λ ask at. from_run (with_ask s ask at)) (text_of bytes c) c asked)
-      answer
-      (below (with_ask s (text_of bytes c) c.start)
-      (λ i.
-      record {
-        setting = (e i).setting;
-        steps = (e i).steps;
-        ask = record { start = c.start; end = ends acc.stands i };
-        run = (e i).run;
-        more = (e i).more;
-      }))
+  -- what is said so far
+  abbrev with_log : Sheet
+  with_log = and_log (opened setting masks) log
 
-  -- the reading, which changes nothing of the masks and of the log
-  reread :
-      (reading : ℕ) (lines : Lines) (at line : ℕ) (answer : SheetAnswer) → SheetFound lines bytes at line (and_reading s reading).subject answer
-      → SheetFound lines bytes at line s.subject answer
-  reread reading lines at line (Faulty f) m = m
-  reread reading lines at line (Read p) m = record { sheet = m.sheet; reads = m.reads; told = m.told; about = m.about; logged = m.logged }
+  pub to_now : Leads (from_now v with_log) steps
+  to_now = past_cursor (log_form v setting.counts.actions) bytes (above.end + 1) (above.line + 1) (λ log at. from_now v (and_log (opened setting masks) log)) log steps logged
 
-  module _ (there : Bool) (answer : SheetAnswer) where
-    pub now_read :
-        there ≡ true → Accepts now_form bytes at line c.number c
-        → ((s : Sheet) → as_read said c.number ≡ parsed_of s → SheetFound (from_ask s) bytes (c.end + 1) (c.line + 1) s.subject answer)
-        → SheetFound (now_then there (λ reading. from_ask (and_reading s reading))) bytes at line s.subject answer
-    now_read has acc below =
-        subst (λ (b : Bool). SheetFound (now_then b (λ reading. from_ask (and_reading s reading))) bytes at line s.subject answer) (sym has)
-        (sheet_found s.subject
-        (past_cursor now_form bytes at line (λ reading at. from_ask (and_reading s reading)) c.number c acc)
-        answer
-        (reread c.number (from_ask (and_reading s c.number)) (c.end + 1) (c.line + 1) answer (below (and_reading s c.number) (ap (λ (p : Parsed). as_read p c.number) e))))
+  module _ (now : Cursor) (reading : ReadIf v.reading now_form bytes steps (λ c. c.number) (Ok now)) where
+    abbrev with_reading : Sheet
+    with_reading = and_reading with_log now.number
 
-  -- or no line for it
-  pub now_lacking :
-      (there : Bool) (answer : SheetAnswer) → there ≡ false
-      → ((s : Sheet) → as_read said 0 ≡ parsed_of s → SheetFound (from_ask s) bytes at line s.subject answer)
-      → SheetFound (now_then there (λ reading. from_ask (and_reading s reading))) bytes at line s.subject answer
-  now_lacking there answer lacks below =
-      subst (λ (b : Bool). SheetFound (now_then b (λ reading. from_ask (and_reading s reading))) bytes at line s.subject answer) (sym lacks)
-      (reread 0 (from_ask (and_reading s 0)) at line answer (below (and_reading s 0) (ap (λ (p : Parsed). as_read p 0) e)))
+    pub to_ask : Leads (from_ask with_reading) now
+    to_ask = next_if v.reading now_form (λ reading. from_ask (and_reading with_log reading)) (λ c. c.number) steps now to_now reading
 
-  -- the log, whose steps stand at the front of the lent one
-  module _ (v : Version) (entry exit : List ℕ) (room : c.number ≤ length exit) where
-    -- the same log line, by what the sheet says
-    log_found :
-        {lines : Lines} → Onward (from_log v s) bytes at line lines (c.end + 1) (c.line + 1) → drop c.number exit ≡ drop c.number entry
-        → (answer : SheetAnswer) → SheetFound lines bytes (c.end + 1) (c.line + 1) (and_log s (take c.number exit)).subject answer
-        → LogFound (from_log v s) bytes at line s.subject.masks entry exit answer
-    log_found on back (Faulty f) m = on.faults _ _ m
-    log_found on back (Read p) m =
-        record {
-          sheet = m.sheet;
-          reads = on.reads _ m.reads;
-          told = m.told;
-          about = m.about;
-          logged =
-              front_written entry exit c.number room back
-              ∙ ap (λ (log : List ℕ). fronted log entry) (sym m.logged);
-        }
+    module _ (ask : Cursor) (asked : Accepts (ask_form setting.counts) bytes (now.end + 1) (now.line + 1) (text_of bytes ask) ask) where
+      abbrev and_ask : Sheet
+      and_ask = with_ask with_reading (text_of bytes ask) ask.start
 
-    pub log_read :
-        (answer : SheetAnswer) → Accepts (log_form v said.setting.counts.actions) bytes at line (take c.number exit) c
-        → drop c.number exit ≡ drop c.number entry
-        → ((s : Sheet) → record { setting = said.setting; steps = c.number; ask = said.ask; run = said.run; more = said.more } ≡ parsed_of s
-        → SheetFound (from_now v s) bytes (c.end + 1) (c.line + 1) s.subject answer)
-        → LogFound (from_log v s) bytes at line s.subject.masks entry exit answer
-    log_read answer acc back below =
-        let log = take c.number exit in
-        let logged = subst (λ (p : Parsed). Accepts (log_form v p.setting.counts.actions) bytes at line log c) e acc in
-        log_found
-        (past_cursor (log_form v s.subject.setting.counts.actions) bytes at line (λ log at. from_now v (and_log s log)) log c logged)
-        back
-        answer
-        (below (and_log s log)
-        (λ i.
-        record {
-          setting = (e i).setting;
-          steps = sym (length-take-le c.number exit room) i;
-          ask = (e i).ask;
-          run = (e i).run;
-          more = (e i).more;
-        }))
+      pub to_run : Leads (from_run and_ask) ask
+      to_run = next_line (ask_form setting.counts) (λ ask at. from_run (with_ask with_reading ask at)) (text_of bytes ask) ask to_ask asked
+
+      module _ (run : Cursor) (job : Accepts (run_form setting.counts) bytes (ask.end + 1) (ask.line + 1) (text_of bytes run) run) where
+        abbrev and_run : Sheet
+        and_run = with_run and_ask (text_of bytes run) run.start
+
+        pub to_more : Leads (from_more and_run) run
+        to_more = next_line (run_form setting.counts) (λ run at. from_more (with_run and_ask run at)) (text_of bytes run) run to_run job
+
+        module _ (more : Cursor) (bound : Accepts more_form bytes (run.end + 1) (run.line + 1) more.number more) where
+          abbrev said : Sheet
+          said = with_more and_run more.number
+
+          pub to_end : Leads (none said) more
+          to_end = next_line more_form (λ more at. none (with_more and_run more)) more.number more to_more bound
+
+          -- nothing follows the last line, and the steps stand at the front of the lent log
+          pub all_said :
+              (entry exit : List ℕ) (count : ℕ) → log ≡ take count exit → count ≤ length exit → drop count exit ≡ drop count entry → length bytes ≤ more.end + 1
+              → LogIs (from_log v (opened setting masks)) bytes (above.end + 1) masks entry exit
+              (record { setting = record setting { reading = now.number }; steps = count; ask = value_of ask; run = value_of run; more = more.number })
+          all_said entry exit count is room back last =
+              let steps : count ≡ length log = omega (arith, ap length is, length-take-le count exit room) in
+              record {
+                sheet = said;
+                reads = to_end.reads said (all_read bytes (more.end + 1) said last);
+                told = λ i.
+                    record {
+                      setting = said.subject.setting;
+                      steps = steps i;
+                      ask = value_placed asked.stands i;
+                      run = value_placed job.stands i;
+                      more = more.number;
+                    };
+                about = refl;
+                logged = front_written entry exit count room back ∙ ap (λ (log : List ℕ). fronted log entry) (sym is);
+              }

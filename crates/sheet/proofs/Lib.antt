@@ -4,8 +4,9 @@ pub mod Written
 pub mod MaskReading
 pub mod LogSteps
 pub mod Whole
-pub mod Acts
+pub mod First
 pub mod Last
+pub mod Acts
 pub mod Determined
 pub mod Accepted
 pub mod Older

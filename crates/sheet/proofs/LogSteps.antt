@@ -1,5 +1,5 @@
 -- Laws of reading a log step by step: two digits a step, which go to the front of the lent log.
-use mathlib.Core.Path.{◌≡◌, refl, sym, ap, ◌∙◌, subst}
+use mathlib.Core.Path.{◌≡◌, refl, sym, ap, ◌∙◌}
 use mathlib.Core.Logic.{inl, inr}
 use mathlib.Core.List.{List, [], ◌∷◌, ◌++◌}
 use Prim.Native.Nat.{ℕ, ◌+◌, ◌-◌, ◌*◌, ◌≤◌, ◌<◌}
@@ -7,7 +7,7 @@ use native.Mathlib.Numerals.{add-one}
 use native.Mathlib.Decide.{dec_lt}
 use native.Mathlib.Omega.{arith}
 use lib.ListN.{length, get_or, take, drop, set, length-set, take-append-drop}
-use lib.Seq.{take_all, take-add, take-suc-set, drop-drop, drop-set-lt}
+use lib.Seq.{take-add, take-suc-set, drop-drop, drop-set-lt}
 use Rattle.meaning.specs.Limits.{action_limit}
 use Rattle.meaning.specs.Rule.{digits}
 use Rattle.meaning.specs.Refusal.{BadLog}
@@ -15,7 +15,7 @@ use Rattle.spelling.specs.Numeral.{log_text}
 use Rattle.spelling.specs.Scan.{stretch}
 use Rattle.spelling.proofs.LogText.{log_long, log_append, step_in}
 use Rattle.spelling.proofs.Stretch.{length_stretch, run_of}
-use Rattle.sheet.specs.Log.{StepsAre, Writable}
+use Rattle.sheet.specs.Log.{Writable}
 
 -- The first steps of a value are read into the front of the log, and nothing else has changed.
 pub record Steps (value entry log : List ℕ) (i : ℕ) : Type 0 where
@@ -59,21 +59,6 @@ pub step_of :
     (bytes rest : List ℕ) (start end i n : ℕ) → 2 * i + 2 ≤ end - start → drop (start + 2 * i) bytes ≡ digits n ++ rest
     → take 2 (drop (2 * i) (stretch bytes start end)) ≡ digits n
 step_of bytes rest start end i n room e = run_of bytes start end (2 * i) 2 room ∙ ap (take 2) e
-
--- all of them are read
-pub steps_done :
-    (bytes : List ℕ) (start end limit : ℕ) (entry log : List ℕ) (count i : ℕ) → Steps (stretch bytes start end) entry log i → i ≡ count
-    → end ≤ length bytes → 2 * count ≡ end - start → count ≤ limit → StepsAre limit (stretch bytes start end) entry log count
-steps_done bytes start end limit entry log count i s all room even few =
-    let value = stretch bytes start end in
-    record {
-      few = few;
-      spelled =
-          sym (take_all (2 * i) value (omega (arith, length_stretch bytes start end room)))
-          ∙ s.read
-          ∙ ap (λ (k : ℕ). log_text (take k log)) all;
-      back = subst (λ (k : ℕ). drop k log ≡ drop k entry) all s.back;
-    }
 
 -- a stretch that is the text of a log has two bytes a step,
 pub two_a_step :

@@ -1,5 +1,5 @@
 -- Laws of reading masks one after the other into a row of the table.
-use mathlib.Core.Path.{◌≡◌, refl, sym, ap, ◌∙◌, subst}
+use mathlib.Core.Path.{◌≡◌, sym, ap, ◌∙◌, subst}
 use mathlib.Core.Logic.{⊎_elim}
 use mathlib.Core.List.{List}
 use Prim.Native.Nat.{ℕ, ◌+◌, ◌-◌, ◌*◌, ◌≤◌, ◌<◌}
@@ -9,14 +9,11 @@ use lib.Seq.{take-set-le, drop-set-lt, get_or-take, get_or-drop, length-take-le}
 use Rattle.laws.proofs.Truth.{off_on}
 use Rattle.laws.proofs.On.{on_none}
 use Rattle.meaning.specs.Refusal.{OneLacking, BadMasks}
-use Rattle.spelling.specs.Scan.{stretch, DigitsOf}
-use Rattle.spelling.specs.declared.Digits.{Digits}
-use Rattle.spelling.specs.declared.Digits.TheVariants.{Number, Other}
+use Rattle.spelling.specs.Scan.{stretch}
 use Rattle.spelling.proofs.Stretch.{length_stretch, run_of, byte_of}
-use Rattle.sheet_lines.specs.Limits.{comma}
 use Rattle.sheet_lines.specs.Masks.{masks_text, mask_pitch, row_width, MaskRow, MaskAt}
 use Rattle.sheet_lines.proofs.MaskRow.{mask_in, masks_text_law}
-use Rattle.sheet.specs.Acts.{MaskFound, row_at, OnlyRow}
+use Rattle.sheet.specs.Acts.{row_at, OnlyRow}
 use Rattle.sheet.proofs.Written.{written_more}
 
 -- a mask of a stretch, by its place on the sheet
@@ -64,10 +61,6 @@ pub record Reading (bytes : List ℕ) (start : ℕ) (entry table : List ℕ) (ro
   pub only : OnlyRow row count entry table
   pub done : (k : ℕ) → k < j → MaskAt bytes start k (get_or table (row + k) 0)
 
-pub reading_none : (bytes : List ℕ) (start : ℕ) (table : List ℕ) (row count : ℕ) → Reading bytes start table table row count 0
-reading_none bytes start table row count =
-    record { few = omega arith; long = refl; only = record { front = refl; back = refl }; done = λ k l. absurd (omega arith) }
-
 pub reading_more :
     (bytes : List ℕ) (start : ℕ) (entry table : List ℕ) (row count j n : ℕ) → row + count ≤ length entry → Reading bytes start entry table row count j
     → j < count → MaskAt bytes start j n → Reading bytes start entry (set table (row + j) n) row count (j + 1)
@@ -104,13 +97,6 @@ reading_done bytes start end entry table row count j r all some room within long
           (length_stretch bytes start end within ∙ long ∙ ap row_width (sym same))
           (λ i l. in_stretch bytes start end i (get_or (row_at table row count) i 0) (omega (arith, same)) (each i (omega (arith, same)))),
     )
-
--- what the digits at its place and the comma before it make of a mask
-pub mask_found :
-    (bytes : List ℕ) (start j : ℕ) → (0 < j → get_or bytes (start + mask_pitch * j - 1) 0 ≡ comma) → (r : Digits)
-    → DigitsOf 16 8 (take 8 (drop (start + mask_pitch * j) bytes)) r → MaskFound bytes start j r
-mask_found bytes start j parted (Number n) d = record { word = d.0; parted = parted; shown = d.1 }
-mask_found bytes start j parted Other d = λ n m. d n m.shown
 
 -- what a list of masks that stands beside no start state lacks
 pub lacking_only : (fluents : ℕ) (masks : List ℕ) → BadMasks fluents 0 masks → OneLacking fluents masks

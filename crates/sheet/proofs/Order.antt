@@ -1,17 +1,22 @@
 -- Laws of reading lines from the top: an accepted line leads on to the lines below it, and a refused one is the fault of all.
 use mathlib.Core.Path.{◌≡◌, refl, sym, ap, subst, subst₂}
 use mathlib.Core.Logic.{inl, inr}
+use mathlib.Core.Bool.{Bool, true, false}
 use mathlib.Core.List.{List}
 use Prim.Native.Nat.{ℕ, ◌+◌, ◌≤◌, ◌<◌}
 use native.Mathlib.Omega.{arith}
 use lib.ListN.{length, length-drop, drop_of_length-le}
+use Rattle.std.specs.Prelude.{Ok, Err}
+use Rattle.refusal.specs.Number.{number_of}
 use Rattle.meaning.specs.Refusal.{Refused}
 use Rattle.meaning.proofs.Refusal.{here, passes, accepts}
 use Rattle.sheet_lines.specs.Line.{Form, line_rows}
-use Rattle.sheet.specs.Lines.{Sheet, Lines, line, none, value_at, next_at, ReadAs, FaultIn}
-use Rattle.sheet_lines.specs.Found.{Accepts}
+use Rattle.sheet.specs.Lines.{Sheet, Lines, line, none, line_if, value_at, next_at, ReadAs, FaultIn}
+use Rattle.sheet_lines.specs.Found.{Accepts, Below}
 use Rattle.sheet.specs.Onward.{Onward}
+use Rattle.sheet.specs.Sections.{ReadIf}
 use Rattle.sheet_lines.specs.declared.Cursor.{Cursor}
+use Rattle.sheet_lines.specs.declared.Fault.{Fault}
 use Rattle.sheet_lines.proofs.Rows.{one_value}
 use Rattle.spelling.proofs.Stretch.{length_stretch}
 
@@ -66,3 +71,39 @@ all_read bytes at sheet l = (passes (λ more. more (drop_of_length-le bytes l)) 
 pub bytes_follow : (bytes : List ℕ) (at place : ℕ) (sheet : Sheet) → at < length bytes → FaultIn (none sheet) bytes at place 2 place
 unfolding FaultIn
 bytes_follow bytes at place sheet l = (here (λ e. let long = length-drop at bytes in let none = ap length e in omega arith), refl)
+
+-- Lines were read down to this one: accepted, it leads on to those below it, and refused, it is the fault of all.
+pub next_line :
+    {whole : Lines} {bytes : List ℕ} {at number at' number' : ℕ} (form : Form) (next : form.Value → ℕ → Lines) (said : form.Value) (c : Cursor)
+    → Onward whole bytes at number (line form next) at' number' → Accepts form bytes at' number' said c
+    → Onward whole bytes at number (next said c.start) (c.end + 1) (c.line + 1)
+next_line {bytes = bytes} {at' = at'} {number' = number'} form next said c on read = goes_on on (past_cursor form bytes at' number' next said c read)
+
+pub bad_line :
+    {whole : Lines} {bytes : List ℕ} {at number at' number' n p : ℕ} (form : Form) (next : form.Value → ℕ → Lines)
+    → Onward whole bytes at number (line form next) at' number' → Refused (line_rows form bytes at') n × (p ≡ number') → FaultIn whole bytes at number n p
+bad_line {bytes = bytes} {at' = at'} {number' = number'} {n = n} {p = p} form next on r = on.faults n p (at_line form bytes at' number' next r)
+
+-- the same of a line that the version may lack
+pub next_if :
+    {whole : Lines} {bytes : List ℕ} {at number : ℕ} (there : Bool) (form : Form) (next : form.Value → Lines) (said : Cursor → form.Value) (above c : Cursor)
+    → Onward whole bytes at number (line_if there form (said (record above { number = 0 })) next) (above.end + 1) (above.line + 1)
+    → ReadIf there form bytes above said (Ok c) → Onward whole bytes at number (next (said c)) (c.end + 1) (c.line + 1)
+next_if true form next said above c on read = next_line form (λ v at. next v) (said c) c on read.0
+next_if {whole} {bytes} {at} {number} false form next said above c on read =
+    let same : record above { number = 0 } ≡ c = cc in
+    subst (λ (k : Cursor). Onward whole bytes at number (next (said k)) (k.end + 1) (k.line + 1)) same on
+
+pub bad_if :
+    {whole : Lines} {bytes : List ℕ} {at number : ℕ} (there : Bool) (form : Form) (other : form.Value) (next : form.Value → Lines) (said : Cursor → form.Value)
+    (above : Cursor) (f : Fault) → Onward whole bytes at number (line_if there form other next) (above.end + 1) (above.line + 1)
+    → ReadIf there form bytes above said (Err f) → FaultIn whole bytes at number (number_of f.refusal) f.line
+bad_if true form other next said above f on read = bad_line form (λ v at. next v) on read
+bad_if false form other next said above f on read = cc
+
+pub below_if :
+    (there : Bool) (form : Form) (bytes : List ℕ) (said : Cursor → form.Value) (above c : Cursor) → Below bytes above → ReadIf there form bytes above said (Ok c) → Below bytes c
+below_if true form bytes said above c below read = read.1
+below_if false form bytes said above c below read =
+    let same : record above { number = 0 } ≡ c = cc in
+    subst (Below bytes) same (record { within = below.within; early = below.early })

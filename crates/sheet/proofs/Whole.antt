@@ -5,20 +5,17 @@ use Prim.Native.Nat.{ℕ, ◌+◌, ◌*◌, ◌≤◌}
 use lib.ListN.{length, take, drop, take-append-drop}
 use lib.Seq.{length-take-le}
 use native.Mathlib.Omega.{arith}
+use Rattle.std.specs.Prelude.{Result, Ok, Err}
 use Rattle.meaning.specs.Limits.{action_limit}
 use Rattle.meaning.specs.Theory.{stride}
-use Rattle.sheet.specs.Lines.{Lines, opened, from_log, lines_of_sheet}
+use Rattle.sheet.specs.Lines.{opened, from_log, lines_of_sheet}
 use Rattle.sheet.specs.Answer.{fronted}
-use Rattle.sheet.specs.Onward.{Onward}
 use Rattle.sheet_lines.specs.Ranged.{Ranged}
-use Rattle.sheet.specs.Sections.{HeadIs, HeadFound, table_in, TableIs, LogFound, LinesFound}
+use Rattle.sheet.specs.Sections.{HeadIs, table_in, TableIs, LogFound, LinesFound}
 use Rattle.sheet_lines.specs.declared.Cursor.{Cursor}
 use Rattle.sheet.specs.declared.Head.{Head}
-use Rattle.sheet.specs.declared.HeadAnswer.{HeadAnswer}
-use Rattle.sheet.specs.declared.HeadAnswer.TheVariants.{Faulty as HeadFaulty, Read as HeadRead}
-use Rattle.sheet.specs.declared.SheetAnswer.{SheetAnswer}
-use Rattle.sheet.specs.declared.SheetAnswer.TheVariants.{Faulty, Read}
-use Rattle.sheet.proofs.Order.{goes_on}
+use Rattle.sheet.specs.declared.Parsed.{Parsed}
+use Rattle.sheet_lines.specs.declared.Fault.{Fault}
 
 -- a list whose front was written, the rest kept
 pub front_written :
@@ -31,21 +28,13 @@ front_written entry exit n room back =
 pub room_for : (h : Head) → Ranged h.setting.counts → table_in h ≤ stride * action_limit
 room_for h r = omega (arith, r.few_actions)
 
--- what is found of the head from a line on is what is found of it from a line above
-pub head_found :
-    {whole rest : Lines} {bytes : List ℕ} {at line at' line' : ℕ} → Onward whole bytes at line rest at' line' → (answer : HeadAnswer)
-    → HeadFound rest bytes at' line' answer → HeadFound whole bytes at line answer
-head_found on (HeadFaulty f) m = on.faults _ _ m
-head_found on (HeadRead h) m =
-    record { usable = m.usable; ranged = m.ranged; below = m.below; onward = goes_on on m.onward }
-
 pub lines_found :
     (bytes : List ℕ) (h : Head) (masks masks' log log' : List ℕ) (c : Cursor) → HeadIs lines_of_sheet bytes 0 1 h → TableIs bytes h masks masks' c
-    → table_in h ≤ length masks' → (answer : SheetAnswer)
+    → table_in h ≤ length masks' → (answer : Result Parsed Fault)
     → LogFound (from_log h.version (opened h.setting (take (table_in h) masks'))) bytes (c.end + 1) (c.line + 1) (take (table_in h) masks') log log' answer
     → LinesFound bytes masks log answer masks' log'
-lines_found bytes h masks masks' log log' c head acts room (Faulty f) m = head.onward.faults _ _ (acts.onward.faults _ _ m)
-lines_found bytes h masks masks' log log' c head acts room (Read p) m =
+lines_found bytes h masks masks' log log' c head acts room (Err f) m = head.onward.faults _ _ (acts.onward.faults _ _ m)
+lines_found bytes h masks masks' log log' c head acts room (Ok p) m =
     record {
       sheet = m.sheet;
       reads = head.onward.reads _ (acts.onward.reads _ m.reads);

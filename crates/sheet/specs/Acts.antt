@@ -1,13 +1,11 @@
 -- What reading the lines of the actions leaves in the lent mask table: the masks of a line from a row on, and all else as it was.
-use Rattle.std.specs.Prelude.{◌≡◌, Bool, true, false, List, ℕ, ◌+◌, take, drop}
-use Rattle.spelling.specs.declared.Digits.{Digits}
-use Rattle.spelling.specs.declared.Digits.TheVariants.{Number, Other}
+use Rattle.std.specs.Prelude.{◌≡◌, Option, Some, None, Bool, true, false, List, ℕ, ◌+◌, take, drop}
 use Rattle.sheet_lines.specs.Masks.{masks_text, MaskRow, MaskAt}
 
 -- mask j of those that start at this place, if it is one
-abbrev pub MaskFound : List ℕ → ℕ → ℕ → Digits → Type 0
-MaskFound bytes start j (Number n) = MaskAt bytes start j n
-MaskFound bytes start j Other = (n : ℕ) → MaskAt bytes start j n → ⊥
+abbrev pub MaskFound : List ℕ → ℕ → ℕ → Option ℕ → Type 0
+MaskFound bytes start j (Some n) = MaskAt bytes start j n
+MaskFound bytes start j None = (n : ℕ) → MaskAt bytes start j n → ⊥
 
 -- so many masks of a table from this row on
 abbrev pub row_at : List ℕ → ℕ → ℕ → List ℕ

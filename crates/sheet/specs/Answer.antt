@@ -1,10 +1,9 @@
 -- What reading a sheet answers, and what the lent memory holds at the end.
-use Rattle.std.specs.Prelude.{◌≡◌, List, ◌++◌, ℕ, ◌+◌, length, drop}
+use Rattle.std.specs.Prelude.{◌≡◌, Result, Ok, Err, List, ◌++◌, ℕ, ◌+◌, length, drop}
 use Rattle.refusal.specs.Number.{number_of}
-use Rattle.sheet.specs.Lines.{Sheet, rereading, SheetRefused, SheetSays}
+use Rattle.sheet.specs.Lines.{Sheet, SheetRefused, SheetSays}
 use Rattle.sheet.specs.declared.Parsed.{Parsed}
-use Rattle.sheet.specs.declared.SheetAnswer.{SheetAnswer}
-use Rattle.sheet.specs.declared.SheetAnswer.TheVariants.{Faulty, Read}
+use Rattle.sheet_lines.specs.declared.Fault.{Fault}
 use Rattle.sheet_lines.specs.declared.Stretch.{Stretch}
 
 -- where a value of a line stands
@@ -21,11 +20,6 @@ parsed_of sheet =
       run = placed sheet.run_at sheet.run;
       more = sheet.more;
     }
-
--- the same where the sheet says this reading
-abbrev pub as_read : Parsed → ℕ → Parsed
-as_read p reading =
-    record { setting = rereading p.setting reading; steps = p.steps; ask = p.ask; run = p.run; more = p.more }
 
 -- the values at the front of lent memory, the rest of which keeps its content
 abbrev pub fronted : List ℕ → List ℕ → List ℕ
@@ -46,6 +40,6 @@ pub record Refuses (bytes masks log : List ℕ) (number place : ℕ) (masks' log
   pub kept_log : log' ≡ log
 
 -- The answer to a sheet, with the lent mask table and the lent log before and after.
-abbrev pub SheetAnswered : List ℕ → List ℕ → List ℕ → SheetAnswer → List ℕ → List ℕ → Type 0
-SheetAnswered bytes masks log (Faulty f) masks' log' = Refuses bytes masks log (number_of f.refusal) f.line masks' log'
-SheetAnswered bytes masks log (Read p) masks' log' = Handed bytes masks log p masks' log'
+abbrev pub SheetAnswered : List ℕ → List ℕ → List ℕ → Result Parsed Fault → List ℕ → List ℕ → Type 0
+SheetAnswered bytes masks log (Err f) masks' log' = Refuses bytes masks log (number_of f.refusal) f.line masks' log'
+SheetAnswered bytes masks log (Ok p) masks' log' = Handed bytes masks log p masks' log'

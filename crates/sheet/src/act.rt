@@ -13,8 +13,8 @@ ghost use Rattle.sheet.specs.Sections.{ActsAsked, ActsFound, TableFound};
 
 use crate::Head;
 use refusal::Refusal;
-use sheet_lines::{Fault, LineAnswer, Version, line, versions};
-use spelling::{Digits, WORD_WIDTH, scan};
+use sheet_lines::{Cursor, Fault, Version, line, versions};
+use spelling::{WORD_WIDTH, scan};
 use theory::faults;
 use theory::rows::PLAIN_STRIDE;
 
@@ -22,20 +22,19 @@ use theory::rows::PLAIN_STRIDE;
 const MASK_PITCH: usize = WORD_WIDTH + 1;
 
 // Mask j of those that start at this place, if a comma parts it from the one before it.
-fn mask_at(sheet: &[u8], start: usize, j: usize) -> Digits
+fn mask_at(sheet: &[u8], start: usize, j: usize) -> Option<u32>
     requires { start + mask_pitch * j + word_width ≤ length sheet.now }
     ensures { MaskFound sheet.now start j result }
 {
     let at = start + MASK_PITCH * j;
-    if 0 < j {
-        if sheet[at - 1] != b',' {
-            return Digits::Other;
-        }
+    if 0 < j && sheet[at - 1] != b',' {
+        return None;
     }
     scan::number_at(sheet, at, WORD_WIDTH, 16)
 }
 
-// Reads so many masks of a stretch into the table from this row on: whether they are written as they should be.
+// Reads so many masks of a stretch into the table from this row on: whether they are written as they should be. It has the whole table and a row in it, since it promises that all else of the
+// table stays.
 fn read_masks(
     sheet: &[u8],
     start: usize,
@@ -50,17 +49,11 @@ fn read_masks(
     if end - start != MASK_PITCH * count - 1 {
         return false;
     }
-    let mut j = 0;
-    while j < count {
+    for j in 0..count {
         match mask_at(sheet, start, j) {
-            Digits::Other => {
-                return false;
-            }
-            Digits::Number(n) => {
-                masks[row + j] = n;
-            }
+            None => return false,
+            Some(mask) => masks[row + j] = mask,
         }
-        j += 1;
     }
     true
 }
@@ -74,79 +67,55 @@ fn act_line(
     fluents: usize,
     masks: &mut [u32],
     row: usize,
-) -> LineAnswer
+) -> Result<Cursor, Fault>
     requires { (at ≤ length sheet.now) × Usable version × (fluents ≤ fluent_limit) × (row + version.masks ≤ length masks.old) }
     ensures { OnlyRow row version.masks masks.old masks.new × LineRead (act_form version fluents) sheet.now at line (λ c. row_at masks.new row version.masks) result }
 {
     let count = version.masks;
-    match line::line_at(sheet, at, line, b"act=") {
-        LineAnswer::Faulty(f) => LineAnswer::Faulty(f),
-        LineAnswer::Next(c) => {
-            let start = c.start;
-            let end = c.end;
-            if !read_masks(sheet, start, end, count, masks, row) {
-                return LineAnswer::Faulty(Fault {
-                    refusal: Refusal::BadNumber,
-                    line,
-                });
-            }
-            if faults::bad_masks(fluents, 0, &masks[row..row + count]) {
-                return LineAnswer::Faulty(Fault {
-                    refusal: Refusal::LacksFluent,
-                    line,
-                });
-            }
-            LineAnswer::Next(c)
-        }
+    let c = line::line_at(sheet, at, line, b"act=")?;
+    if !read_masks(sheet, c.start, c.end, count, masks, row) {
+        return Err(Fault {
+            refusal: Refusal::BadNumber,
+            line,
+        });
     }
+    if faults::bad_masks(fluents, 0, &masks[row..row + count]) {
+        return Err(Fault {
+            refusal: Refusal::LacksFluent,
+            line,
+        });
+    }
+    Ok(c)
 }
 
 // The lines of the actions below the head; their masks go to the front of the table, one line's behind the other's.
-fn read_acts(sheet: &[u8], head: Head, masks: &mut [u32]) -> LineAnswer
+fn read_acts(sheet: &[u8], head: Head, masks: &mut [u32]) -> Result<Cursor, Fault>
     requires { ActsAsked sheet.now head masks.old }
     ensures { ActsFound sheet.now head masks.old masks.new result }
 {
-    let version = head.version;
-    let setting = head.setting;
-    let counts = setting.counts;
-    let fluents = counts.fluents;
-    let actions = counts.actions;
-    let count = version.masks;
     let mut last = head.last;
-    let mut a = 0;
-    while a < actions {
-        let at = last.end + 1;
-        let line = last.line + 1;
-        match act_line(sheet, at, line, version, fluents, masks, count * a) {
-            LineAnswer::Faulty(f) => {
-                return LineAnswer::Faulty(f);
-            }
-            LineAnswer::Next(c) => {
-                last = c;
-            }
-        }
-        a += 1;
+    for a in 0..head.setting.counts.actions {
+        last = act_line(
+            sheet,
+            last.end + 1,
+            last.line + 1,
+            head.version,
+            head.setting.counts.fluents,
+            masks,
+            head.version.masks * a,
+        )?;
     }
-    LineAnswer::Next(last)
+    Ok(last)
 }
 
 // The lines of the actions below the head, and the table of what they say.
-pub(crate) fn read_table(sheet: &[u8], head: Head, masks: &mut [u32]) -> LineAnswer
+pub(crate) fn read_table(sheet: &[u8], head: Head, masks: &mut [u32]) -> Result<Cursor, Fault>
     requires { ActsAsked sheet.now head masks.old }
     ensures { TableFound sheet.now head masks.old masks.new result }
 {
-    let version = head.version;
-    let setting = head.setting;
-    let counts = setting.counts;
-    let actions = counts.actions;
-    let count = version.masks;
-    match read_acts(sheet, head, masks) {
-        LineAnswer::Faulty(f) => LineAnswer::Faulty(f),
-        LineAnswer::Next(c) => {
-            if count == PLAIN_STRIDE {
-                versions::widen(actions, masks);
-            }
-            LineAnswer::Next(c)
-        }
+    let last = read_acts(sheet, head, masks)?;
+    if head.version.masks == PLAIN_STRIDE {
+        versions::widen(head.setting.counts.actions, masks);
     }
+    Ok(last)
 }

@@ -10,7 +10,7 @@ mod steps; // steps.rt: the log line
 
 use positions::PositionSet;
 use refusal::Refusal;
-use sheet_lines::{Cursor, Fault, LineAnswer, Stretch, Version};
+use sheet_lines::{Cursor, Fault, Stretch, Version};
 use theory::{ACTION_LIMIT, STRIDE, Setting};
 
 // What the lines down to the start state say, with the cursor of the last of them.
@@ -19,12 +19,6 @@ struct Head {
     pub version: Version,
     pub setting: Setting,
     pub last: Cursor,
-}
-
-#[derive(Clone, Copy)]
-enum HeadAnswer {
-    Faulty(Fault),
-    Read(Head),
 }
 
 // What an accepted sheet says, but for the masks and the steps of the log, which go to lent memory: how many steps there are, and where the rules stand.
@@ -37,12 +31,6 @@ pub struct Parsed {
     pub more: usize,
 }
 
-#[derive(Clone, Copy)]
-pub enum SheetAnswer {
-    Faulty(Fault),
-    Read(Parsed),
-}
-
 // Document 02: the longest sheet of any version.
 pub const SHEET_LIMIT: usize = 6738;
 
@@ -52,23 +40,16 @@ pub const MASKS_ROOM: usize = STRIDE * ACTION_LIMIT;
 pub const LOG_ROOM: usize = PositionSet::PLACES;
 
 // The lines from the top: the first faulty one, or what they say.
-fn read_lines(sheet: &[u8], masks: &mut [u32; MASKS_ROOM], log: &mut [u8; LOG_ROOM]) -> SheetAnswer
+fn read_lines(
+    sheet: &[u8],
+    masks: &mut [u32; MASKS_ROOM],
+    log: &mut [u8; LOG_ROOM],
+) -> Result<Parsed, Fault>
     ensures { LinesFound sheet.now masks.old log.old result masks.new log.new }
 {
-    match opening::read_head(sheet) {
-        HeadAnswer::Faulty(f) => SheetAnswer::Faulty(f),
-        HeadAnswer::Read(h) => {
-            let version = h.version;
-            let setting = h.setting;
-            match act::read_table(sheet, h, masks) {
-                LineAnswer::Faulty(f) => SheetAnswer::Faulty(f),
-                LineAnswer::Next(c) => {
-                    let said = closing::nothing_yet(setting);
-                    closing::read_log(sheet, c, version, said, log)
-                }
-            }
-        }
-    }
+    let head = opening::read_head(sheet)?;
+    let last = act::read_table(sheet, head, masks)?;
+    closing::read_rest(sheet, last, head.version, head.setting, log)
 }
 
 // Reads a sheet: the first faulty line with its refusal, or what the sheet says. Its masks and its log go to the front of the lent tables, which a
@@ -77,23 +58,19 @@ pub fn read_sheet(
     sheet: &[u8],
     masks: &mut [u32; MASKS_ROOM],
     log: &mut [u8; LOG_ROOM],
-) -> SheetAnswer
+) -> Result<Parsed, Fault>
     ensures { SheetAnswered sheet.now masks.old log.old result masks.new log.new }
 {
     if SHEET_LIMIT < sheet.len() {
-        return SheetAnswer::Faulty(Fault {
+        return Err(Fault {
             refusal: Refusal::SheetTooLong,
             line: 0,
         });
     }
     let mut table = *masks;
     let mut steps = *log;
-    match read_lines(sheet, &mut table, &mut steps) {
-        SheetAnswer::Faulty(f) => SheetAnswer::Faulty(f),
-        SheetAnswer::Read(p) => {
-            *masks = table;
-            *log = steps;
-            SheetAnswer::Read(p)
-        }
-    }
+    let parsed = read_lines(sheet, &mut table, &mut steps)?;
+    *masks = table;
+    *log = steps;
+    Ok(parsed)
 }

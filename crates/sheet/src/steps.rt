@@ -1,5 +1,5 @@
 // The log line: two digits an action, which go into the lent log.
-ghost use Rattle.std.specs.Prelude.{◌≤◌, ◌<◌, ◌^◌, length, take};
+ghost use Rattle.std.specs.Prelude.{◌≤◌, length, take};
 ghost use Rattle.meaning.specs.Limits.{action_limit, log_limit};
 ghost use Rattle.spelling.specs.Scan.{stretch};
 ghost use Rattle.sheet_lines.specs.Versions.{Usable};
@@ -8,39 +8,31 @@ ghost use Rattle.sheet_lines.specs.Found.{LineRead};
 ghost use Rattle.sheet.specs.Log.{StepsRead, LogKept};
 
 use refusal::Refusal;
-use sheet_lines::{Cursor, Fault, LineAnswer, Version, line};
-use spelling::{Digits, scan};
+use sheet_lines::{Cursor, Fault, Version, line};
+use spelling::scan;
 use theory::faults;
 
 // "two digits an action"
 const STEP_WIDTH: usize = 2;
 
 // Reads the steps of a stretch into the log: how many they are, if they are written as they should be and not too many.
-fn read_steps(sheet: &[u8], start: usize, end: usize, limit: usize, log: &mut [u8]) -> Digits
-    requires { (start ≤ end) × (end ≤ length sheet.now) × (limit ≤ length log.old) × (limit < 2 ^ 32) }
+fn read_steps(sheet: &[u8], start: usize, end: usize, limit: usize, log: &mut [u8]) -> Option<usize>
+    requires { (start ≤ end) × (end ≤ length sheet.now) × (limit ≤ length log.old) }
     ensures { StepsRead limit (stretch sheet.now start end) log.old log.new result }
 {
     let size = end - start;
     let count = size / STEP_WIDTH;
     if STEP_WIDTH * count != size {
-        return Digits::Other;
+        return None;
     }
     if limit < count {
-        return Digits::Other;
+        return None;
     }
-    let mut i = 0;
-    while i < count {
-        match scan::two_digits(sheet, start + STEP_WIDTH * i) {
-            Digits::Other => {
-                return Digits::Other;
-            }
-            Digits::Number(n) => {
-                log[i] = n as u8;
-            }
-        }
-        i += 1;
+    for i in 0..count {
+        let step = scan::two_digits(sheet, start + STEP_WIDTH * i)?;
+        log[i] = step as u8;
     }
-    Digits::Number(count as u32)
+    Some(count)
 }
 
 // The log line, whose steps go to the front of the log. Its number is how many they are.
@@ -51,35 +43,21 @@ pub(crate) fn log_line(
     version: Version,
     actions: usize,
     log: &mut [u8],
-) -> LineAnswer
+) -> Result<Cursor, Fault>
     requires { (at ≤ length sheet.now) × Usable version × (actions ≤ action_limit) × (log_limit ≤ length log.old) }
     ensures { LineRead (log_form version actions) sheet.now at line (λ c. take c.number log.new) result × LogKept version.log log.old log.new result }
 {
-    let limit = version.log;
-    let bad = LineAnswer::Faulty(Fault {
+    let bad = Fault {
         refusal: Refusal::BadLog,
         line,
-    });
-    match line::line_at(sheet, at, line, b"log=") {
-        LineAnswer::Faulty(f) => LineAnswer::Faulty(f),
-        LineAnswer::Next(c) => {
-            let start = c.start;
-            let end = c.end;
-            match read_steps(sheet, start, end, limit, log) {
-                Digits::Other => bad,
-                Digits::Number(n) => {
-                    let count = n as usize;
-                    if faults::bad_log(actions, &log[..count]) {
-                        return bad;
-                    }
-                    LineAnswer::Next(Cursor {
-                        line,
-                        start,
-                        end,
-                        number: n,
-                    })
-                }
-            }
-        }
+    };
+    let c = line::line_at(sheet, at, line, b"log=")?;
+    let count = read_steps(sheet, c.start, c.end, version.log, log).ok_or(bad)?;
+    if faults::bad_log(actions, &log[..count]) {
+        return Err(bad);
     }
+    Ok(Cursor {
+        number: count as u32,
+        ..c
+    })
 }

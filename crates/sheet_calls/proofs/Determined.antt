@@ -3,20 +3,9 @@ use mathlib.Core.Path.{◌≡◌, sym, ap, ◌∙◌}
 use mathlib.Core.Logic.{inl, inr}
 use mathlib.Core.List.{List}
 use Prim.Native.Nat.{ℕ}
-use Rattle.sheet.specs.declared.Parsed.{Parsed}
-use Rattle.sheet.specs.declared.SheetAnswer.{SheetAnswer}
-use Rattle.sheet.specs.declared.SheetAnswer.TheVariants.{Faulty, Read}
+use Rattle.std.specs.Prelude.{Ok}
 use Rattle.sheet.proofs.Determined.{one_refusal, refused_or_says, read_sheet_determined}
 use Rattle.sheet_calls.specs.Exported.{line_numbers, numbers_of, SheetExported}
-
--- two accepted sheets that are one are handed back alike
-parsed_in : Parsed → SheetAnswer → Parsed
-parsed_in d (Faulty f) = d
-parsed_in d (Read p) = p
-
-read_same : {p q : Parsed} → Read p ≡ Read q → p ≡ q
-unfolding parsed_in
-read_same {p} e = ap (parsed_in p) e
 
 -- a sheet in numbers
 pub wyh_read_sheet_determined :
@@ -33,6 +22,7 @@ wyh_read_sheet_determined bytes masks log (inl x) (inl y) =
 wyh_read_sheet_determined bytes masks log (inl x) (inr y) = absurd (refused_or_says bytes _ x.place y.handed.sheet x.refused.refused y.handed.says)
 wyh_read_sheet_determined bytes masks log (inr x) (inl y) = absurd (refused_or_says bytes _ y.place x.handed.sheet y.refused.refused x.handed.says)
 wyh_read_sheet_determined bytes masks log {m = m} {m' = m'} {l = l} {l' = l'} (inr x) (inr y) =
-    let e = read_sheet_determined bytes masks log (Read x.parsed) (Read y.parsed) m m' l l' x.handed y.handed in
-    let same : x.parsed ≡ y.parsed = read_same e.0 in
+    let e = read_sheet_determined bytes masks log (Ok x.parsed) (Ok y.parsed) m m' l l' x.handed y.handed in
+    let read = e.0 in
+    let same : x.parsed ≡ y.parsed = cc in
     (x.none ∙ sym y.none, x.told ∙ ap numbers_of same ∙ sym y.told, e.1, e.2)

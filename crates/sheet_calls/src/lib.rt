@@ -4,7 +4,7 @@ ghost use Rattle.answer.specs.Written.{AnswerWritten};
 ghost use Rattle.sheet_calls.specs.Exported.{SheetExported};
 
 use answer::ANSWER_ROOM;
-use sheet::{LOG_ROOM, MASKS_ROOM, SheetAnswer};
+use sheet::{LOG_ROOM, MASKS_ROOM};
 
 // How many numbers a sheet is told in: its line where it is refused, fluents, actions, domain, start, the log's steps, the reading, where ask and run begin and end, more.
 pub const SHEET_NUMBERS: usize = 12;
@@ -20,29 +20,24 @@ pub extern "C" fn wyh_read_sheet(
     ensures { SheetExported sheet.now masks.old log.old result numbers.new masks.new log.new }
 {
     match sheet::read_sheet(sheet, masks, log) {
-        SheetAnswer::Faulty(f) => {
+        Err(f) => {
             *numbers = [f.line, 0, 0, 0, 0, 0, 0, 0, 0, 0, 0, 0];
-            let why = f.refusal;
-            refusal::number(why)
+            u8::from(f.refusal)
         }
-        SheetAnswer::Read(p) => {
-            let setting = p.setting;
-            let counts = setting.counts;
-            let start = setting.start as usize;
-            let ask = p.ask;
-            let run = p.run;
+        Ok(p) => {
+            let counts = p.setting.counts;
             *numbers = [
                 0,
                 counts.fluents,
                 counts.actions,
                 counts.domain,
-                start,
+                p.setting.start as usize,
                 p.steps,
-                setting.reading,
-                ask.start,
-                ask.end,
-                run.start,
-                run.end,
+                p.setting.reading,
+                p.ask.start,
+                p.ask.end,
+                p.run.start,
+                p.run.end,
                 p.more,
             ];
             0

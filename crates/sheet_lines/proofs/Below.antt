@@ -6,8 +6,8 @@ use lib.ListN.{length}
 use Rattle.sheet_lines.specs.Line.{Form}
 use Rattle.sheet_lines.specs.Found.{Accepts, LineRead, Below, ReadBelow}
 use Rattle.sheet_lines.specs.declared.Cursor.{Cursor}
-use Rattle.sheet_lines.specs.declared.LineAnswer.{LineAnswer}
-use Rattle.sheet_lines.specs.declared.LineAnswer.TheVariants.{Faulty, Next}
+use Rattle.sheet_lines.specs.declared.Fault.{Fault}
+use Rattle.std.specs.Prelude.{Result, Ok, Err}
 
 module _ (form : Form) (bytes : List ℕ) where
   -- reading goes on below an accepted line, where it is not further down than its place
@@ -19,7 +19,7 @@ module _ (form : Form) (bytes : List ℕ) where
 
   -- so a line that is read below another is gone on from
   pub read_below :
-      (above : Cursor) (said : Cursor → form.Value) → Below bytes above → (answer : LineAnswer)
+      (above : Cursor) (said : Cursor → form.Value) → Below bytes above → (answer : Result Cursor Fault)
       → LineRead form bytes (above.end + 1) (above.line + 1) said answer → ReadBelow form bytes above said answer
-  read_below above said b (Faulty f) r = r
-  read_below above said b (Next c) r = (r, below_line (above.end + 1) (above.line + 1) (said c) c r (omega (arith, b.early)))
+  read_below above said b (Err f) r = r
+  read_below above said b (Ok c) r = (r, below_line (above.end + 1) (above.line + 1) (said c) c r (omega (arith, b.early)))

@@ -3,11 +3,9 @@ pub mod Rows
 pub mod Ends
 pub mod Say
 pub mod Below
-pub mod Words
 pub mod MaskRow
 pub mod Forms
 pub mod RuleLine
 pub mod Widen
-pub mod Cut
 pub mod Rising
 pub mod Determined

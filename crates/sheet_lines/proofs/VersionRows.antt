@@ -38,23 +38,9 @@ usable =
     )
 
 module _ (v : Version) (u : Usable v) where
-  pub some_masks : 1 ≤ v.masks
-  some_masks = ⊎_elim (λ e. omega arith) (λ e. omega arith) u.rows
-
   pub few_masks : v.masks ≤ stride
   few_masks = ⊎_elim (λ e. omega arith) (λ e. omega arith) u.rows
 
 -- Its log is as long as a call's may be.
 pub callable : (number : ℕ) → (version_meant number).log ≡ log_limit
 callable = of_each (λ v. v.log ≡ log_limit) (refl, (refl, (refl, (refl, tt))))
-
--- a number without a row of its own has the first
-pub first_row : (number : ℕ) → (number ≡ 2 → ⊥) → (number ≡ 3 → ⊥) → (number ≡ 4 → ⊥) → sheet1 ≡ version_meant number
-first_row number second third fourth = go (number - 1) refl
-  where
-    go : (i : ℕ) → number - 1 ≡ i → sheet1 ≡ get_or versions i sheet1
-    go zero e = refl
-    go (suc zero) e = absurd (second (omega arith))
-    go (suc (suc zero)) e = absurd (third (omega arith))
-    go (suc (suc (suc zero))) e = absurd (fourth (omega arith))
-    go (suc (suc (suc (suc i)))) e = refl

@@ -73,10 +73,6 @@ module _ (entry table : List ℕ) (actions a : ℕ) (room : stride * actions ≤
             ∙ ap (λ (n : ℕ). plain_rows entry a n ++ drop (stride * actions) entry) left;
       }
 
--- all of them
-pub widened_done : (entry table : List ℕ) (actions : ℕ) → Widened entry table actions 0 → table ≡ plain_rows entry 0 actions ++ drop (stride * actions) entry
-widened_done entry table actions w = let all : actions - 0 ≡ actions = omega arith in w.back ∙ ap (λ (n : ℕ). plain_rows entry 0 n ++ drop (stride * actions) entry) all
-
 -- What a version's lines make of the table: rows that are made from four masks, or the masks themselves
 module _ (v : Version) (actions : ℕ) (masks : List ℕ) where
   pub table_plain : v.masks ≡ plain_stride → table_of v actions masks ≡ plain_rows masks 0 actions

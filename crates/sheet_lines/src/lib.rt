@@ -1,6 +1,6 @@
 #![tactic(auto)]
 // The lines of a sheet, one at a time: what the line at a place says, or why it is refused, and the versions that say which lines there are. Knows no order of lines.
-ghost use Rattle.std.specs.Prelude.{◌≡◌, min, length};
+ghost use Rattle.std.specs.Prelude.{min, length};
 ghost use Rattle.rule.specs.Outcome.{PartAt};
 ghost use Rattle.spelling.specs.Scan.{stretch};
 
@@ -27,20 +27,14 @@ pub struct Fault {
     pub line: usize,
 }
 
-// An accepted line: its number from 1, the place where its value starts, the place of its LF, and the number that it says, 0 where it says none.
+// An accepted line: its number from 1, the place where its value starts, the place of its LF, and the number that it says, 0 where it says none (no Option: who reads the number has
+// asked for a line that says one).
 #[derive(Clone, Copy)]
 pub struct Cursor {
     pub line: usize,
     pub start: usize,
     pub end: usize,
     pub number: u32,
-}
-
-// What reading one line answers.
-#[derive(Clone, Copy)]
-pub enum LineAnswer {
-    Faulty(Fault),
-    Next(Cursor),
 }
 
 // A stretch of the sheet: from this place up to that one.
@@ -50,19 +44,12 @@ pub struct Stretch {
     pub end: usize,
 }
 
-// The smaller of two numbers.
-fn least(a: usize, b: usize) -> usize
-    ensures { result ≡ min a b }
-{
-    if a < b { a } else { b }
-}
-
 // The stretch of the sheet, as a part of the same sheet: so much of it as there is.
 pub fn part(sheet: &[u8], s: Stretch) -> &[u8]
     ensures { PartAt sheet.entry (min s.start (length sheet.now)) (stretch sheet.now s.start s.end) result }
 {
-    let start = least(s.start, sheet.len());
-    let end = least(s.end, sheet.len());
+    let start = s.start.min(sheet.len());
+    let end = s.end.min(sheet.len());
     if end < start {
         return &sheet[start..start];
     }

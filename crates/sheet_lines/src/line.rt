@@ -1,13 +1,12 @@
 // One line of a sheet: its key and its LF, and the lines that say a number or a reading.
-ghost use Rattle.std.specs.Prelude.{◌≡◌, ◌↔◌, true, ◌≤◌, ◌<◌, ◌^◌, length};
+ghost use Rattle.std.specs.Prelude.{◌≤◌, ◌<◌, ◌^◌, length};
 ghost use Rattle.meaning.specs.Limits.{fluent_limit};
-ghost use Rattle.spelling.specs.Scan.{stretch};
 ghost use Rattle.sheet_lines.specs.Forms.{number_form, now_form, start_form};
 ghost use Rattle.sheet_lines.specs.Found.{Below, LineFound, Unnumbered, LineRead, ReadBelow};
 
-use crate::{Cursor, Fault, LineAnswer};
+use crate::{Cursor, Fault};
 use refusal::Refusal;
-use spelling::{Digits, WORD_WIDTH, scan};
+use spelling::{WORD_WIDTH, scan};
 use theory::faults;
 
 // The version and *more* have one digit, a count and the domain have two.
@@ -16,7 +15,7 @@ pub const DIGIT_WIDTH: usize = 1;
 pub const COUNT_WIDTH: usize = 2;
 
 // The line with this key at this place, whatever its value is.
-pub fn line_at(sheet: &[u8], at: usize, line: usize, key: &[u8]) -> LineAnswer
+pub fn line_at(sheet: &[u8], at: usize, line: usize, key: &[u8]) -> Result<Cursor, Fault>
     requires { at ≤ length sheet.now }
     ensures { LineFound key.now sheet.now at line result × Unnumbered result }
 {
@@ -24,7 +23,7 @@ pub fn line_at(sheet: &[u8], at: usize, line: usize, key: &[u8]) -> LineAnswer
         let start = at + key.len();
         let end = scan::find_lf(sheet, start);
         if end < sheet.len() {
-            return LineAnswer::Next(Cursor {
+            return Ok(Cursor {
                 line,
                 start,
                 end,
@@ -32,7 +31,7 @@ pub fn line_at(sheet: &[u8], at: usize, line: usize, key: &[u8]) -> LineAnswer
             });
         }
     }
-    LineAnswer::Faulty(Fault {
+    Err(Fault {
         refusal: Refusal::BadLine,
         line,
     })
@@ -47,37 +46,17 @@ pub fn number_line(
     width: usize,
     low: u32,
     high: u32,
-) -> LineAnswer
+) -> Result<Cursor, Fault>
     requires { (at ≤ length sheet.now) × (high < 10 ^ width) × (10 ^ width ≤ 2 ^ 32) }
     ensures { LineRead (number_form key.now width low high) sheet.now at line (λ c. c.number) result }
 {
-    let bad = LineAnswer::Faulty(Fault {
-        refusal: Refusal::BadNumber,
-        line,
-    });
-    match line_at(sheet, at, line, key) {
-        LineAnswer::Faulty(f) => LineAnswer::Faulty(f),
-        LineAnswer::Next(c) => {
-            let start = c.start;
-            let end = c.end;
-            match scan::number_in(sheet, start, end, width, 10) {
-                Digits::Other => bad,
-                Digits::Number(n) => {
-                    if n < low {
-                        return bad;
-                    }
-                    if high < n {
-                        return bad;
-                    }
-                    LineAnswer::Next(Cursor {
-                        line,
-                        start,
-                        end,
-                        number: n,
-                    })
-                }
-            }
-        }
+    let c = line_at(sheet, at, line, key)?;
+    match scan::number_in(sheet, c.start, c.end, width, 10) {
+        Some(number) if (low..=high).contains(&number) => Ok(Cursor { number, ..c }),
+        _ => Err(Fault {
+            refusal: Refusal::BadNumber,
+            line,
+        }),
     }
 }
 
@@ -89,92 +68,48 @@ pub fn number_below(
     width: usize,
     low: u32,
     high: u32,
-) -> LineAnswer
+) -> Result<Cursor, Fault>
     requires { Below sheet.now above × (high < 10 ^ width) × (10 ^ width ≤ 2 ^ 32) }
     ensures { ReadBelow (number_form key.now width low high) sheet.now above (λ c. c.number) result }
 {
-    let at = above.end + 1;
-    let line = above.line + 1;
-    number_line(sheet, at, line, key, width, low, high)
-}
-
-// The stretch is this word.
-fn is_word(sheet: &[u8], start: usize, end: usize, word: &[u8]) -> bool
-    requires { (start ≤ end) × (end ≤ length sheet.now) }
-    ensures { (result ≡ true) ↔ (stretch sheet.now start end ≡ word.now) }
-{
-    if end - start != word.len() {
-        return false;
-    }
-    scan::opens_with(sheet, start, word)
+    number_line(sheet, above.end + 1, above.line + 1, key, width, low, high)
 }
 
 // How a test inside a walk is read, in the line below another: number 0 for `step`, 1 for `end`.
-pub fn now_below(sheet: &[u8], above: Cursor) -> LineAnswer
+pub fn now_below(sheet: &[u8], above: Cursor) -> Result<Cursor, Fault>
     requires { Below sheet.now above }
     ensures { ReadBelow now_form sheet.now above (λ c. c.number) result }
 {
-    let at = above.end + 1;
-    let line = above.line + 1;
-    match line_at(sheet, at, line, b"now=") {
-        LineAnswer::Faulty(f) => LineAnswer::Faulty(f),
-        LineAnswer::Next(c) => {
-            let start = c.start;
-            let end = c.end;
-            if is_word(sheet, start, end, b"step") {
-                return LineAnswer::Next(Cursor {
-                    line,
-                    start,
-                    end,
-                    number: 0,
-                });
-            }
-            if is_word(sheet, start, end, b"end") {
-                return LineAnswer::Next(Cursor {
-                    line,
-                    start,
-                    end,
-                    number: 1,
-                });
-            }
-            LineAnswer::Faulty(Fault {
-                refusal: Refusal::BadNumber,
-                line,
-            })
-        }
+    let c = line_at(sheet, above.end + 1, above.line + 1, b"now=")?;
+    let word = &sheet[c.start..c.end];
+    if word == b"step".as_slice() {
+        Ok(Cursor { number: 0, ..c })
+    } else if word == b"end".as_slice() {
+        Ok(Cursor { number: 1, ..c })
+    } else {
+        Err(Fault {
+            refusal: Refusal::BadNumber,
+            line: c.line,
+        })
     }
 }
 
 // The start state.
-pub fn start_line(sheet: &[u8], at: usize, line: usize, fluents: usize) -> LineAnswer
+pub fn start_line(sheet: &[u8], at: usize, line: usize, fluents: usize) -> Result<Cursor, Fault>
     requires { (at ≤ length sheet.now) × (fluents ≤ fluent_limit) }
     ensures { LineRead (start_form fluents) sheet.now at line (λ c. c.number) result }
 {
-    match line_at(sheet, at, line, b"start=") {
-        LineAnswer::Faulty(f) => LineAnswer::Faulty(f),
-        LineAnswer::Next(c) => {
-            let start = c.start;
-            let end = c.end;
-            match scan::number_in(sheet, start, end, WORD_WIDTH, 16) {
-                Digits::Other => LineAnswer::Faulty(Fault {
-                    refusal: Refusal::BadNumber,
-                    line,
-                }),
-                Digits::Number(n) => {
-                    if faults::names_lacking(fluents, n) {
-                        return LineAnswer::Faulty(Fault {
-                            refusal: Refusal::LacksFluent,
-                            line,
-                        });
-                    }
-                    LineAnswer::Next(Cursor {
-                        line,
-                        start,
-                        end,
-                        number: n,
-                    })
-                }
-            }
-        }
+    let bad = Fault {
+        refusal: Refusal::BadNumber,
+        line,
+    };
+    let c = line_at(sheet, at, line, b"start=")?;
+    let number = scan::number_in(sheet, c.start, c.end, WORD_WIDTH, 16).ok_or(bad)?;
+    if faults::names_lacking(fluents, number) {
+        return Err(Fault {
+            refusal: Refusal::LacksFluent,
+            line,
+        });
     }
+    Ok(Cursor { number, ..c })
 }

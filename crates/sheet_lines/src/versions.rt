@@ -48,9 +48,7 @@ pub fn widen(actions: usize, masks: &mut [u32])
     requires { (actions ≤ action_limit) × (stride * actions ≤ length masks.old) }
     ensures { masks.new ≡ plain_rows masks.old 0 actions ++ drop (stride * actions) masks.old }
 {
-    let mut a = actions;
-    while 0 < a {
-        a -= 1;
+    for a in (0..actions).rev() {
         let from = PLAIN_STRIDE * a;
         let need = masks[from];
         let ban = masks[from + 1];

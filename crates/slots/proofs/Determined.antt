@@ -1,8 +1,8 @@
 -- Any two outcomes that the contracts of this crate allow are equal: a set is told by its positions, a table by what each of its slots has.
-use mathlib.Core.Path.{◌≡◌, sym, subst⁻¹, ◌∙◌}
+use mathlib.Core.Path.{◌≡◌, sym, ap, subst⁻¹, ◌∙◌}
 use mathlib.Core.Logic.{◌⊎◌, inl, inr, ⊎_elim}
 use mathlib.Core.List.{List}
-use Prim.Native.Nat.{ℕ, ◌≤◌, ◌<◌}
+use Prim.Native.Nat.{ℕ, zero, suc, ◌≤◌, ◌<◌}
 use native.Mathlib.Decide.{dec_lt, ℕ_discrete}
 use native.Mathlib.Omega.{arith}
 use lib.ListN.{length, get_or}
@@ -12,6 +12,8 @@ use Rattle.laws.proofs.Truth.{same_truth}
 use Rattle.positions.specs.declared.PositionSet.{PositionSet}
 use Rattle.positions.specs.Positions.{holds, Proper}
 use Rattle.positions.proofs.Held.{same_set}
+use Rattle.steps.specs.declared.letters.Values.{Values}
+use Rattle.steps.specs.Values.{listed}
 use Rattle.runs.specs.Image.{Set}
 use Rattle.runs.specs.Values.{own_in, inner_in}
 use Rattle.runs.specs.Slots.{slot, Stored, Cleared, Forgotten}
@@ -91,3 +93,22 @@ next_turn_determined {left} {n} {own} {own'} {bound} r s proper proper' x y = go
         let one = x.end e in
         let two = y.end e in
         (one.0 ∙ sym two.0, same_set r s proper proper' (λ q. one.1 q ∙ sym (two.1 q)))
+
+-- `none_bound`, `inside`, `rebound`: the list of seven numbers tells all
+pub values_determined : (r s : Values) → length r.of ≡ 4 → length s.of ≡ 4 → listed r ≡ listed s → r ≡ s
+values_determined r s long long' e = λ i. record {
+  of = same i;
+  domain = ap (λ (l : List ℕ). get_or l 4 0) e i;
+  own = ap (λ (l : List ℕ). get_or l 5 0) e i;
+  inner = ap (λ (l : List ℕ). get_or l 6 0) e i;
+}
+  where
+    at : (j : ℕ) → j < 4 → get_or r.of j 0 ≡ get_or s.of j 0
+    at zero low = ap (λ (l : List ℕ). get_or l 0 0) e
+    at (suc zero) low = ap (λ (l : List ℕ). get_or l 1 0) e
+    at (suc (suc zero)) low = ap (λ (l : List ℕ). get_or l 2 0) e
+    at (suc (suc (suc zero))) low = ap (λ (l : List ℕ). get_or l 3 0) e
+    at (suc (suc (suc (suc j)))) low = absurd (omega arith)
+
+    same : r.of ≡ s.of
+    same = ext_get_or 0 r.of s.of (long ∙ sym long') (λ j low. at j (omega (arith, low, long)))

@@ -2,12 +2,12 @@
 ghost use Rattle.std.specs.Prelude.{◌≡◌, ◌≤◌, length};
 ghost use Rattle.positions.specs.Positions.{holds, Empty};
 ghost use Rattle.runs.specs.Readings.{Together, NextTurn, Renewed};
+ghost use Rattle.steps.specs.Values.{listed};
 
 use crate::STEP;
 use crate::slots::forget;
-use crate::values::{INNER, OWN};
 use positions::PositionSet;
-use steps::letters::VARS;
+use steps::letters::Values;
 
 // Positions that have one now, and that now.
 #[derive(Clone, Copy)]
@@ -17,13 +17,12 @@ pub struct Turn {
 }
 
 // Those of a set that are asked next.
-pub fn next_turn(left: PositionSet, now: usize, vars: &[usize; VARS]) -> Turn
+pub fn next_turn(left: PositionSet, now: usize, vars: &Values) -> Turn
     requires { Empty left → ⊥ }
-    ensures together { Together (holds left) now vars.now result.own (holds result.these) }
-    ensures which { NextTurn (holds left) now vars.now result.own (holds result.these) }
+    ensures together { Together (holds left) now (listed vars.now) result.own (holds result.these) }
+    ensures which { NextTurn (holds left) now (listed vars.now) result.own (holds result.these) }
 {
-    let reading = vars[OWN];
-    if reading == STEP {
+    if vars.own == STEP {
         let own = left.earliest();
         let these = PositionSet::at(own);
         Turn { own, these }
@@ -36,14 +35,12 @@ pub fn next_turn(left: PositionSet, now: usize, vars: &[usize; VARS]) -> Turn
 }
 
 // Before the next now: in a job, whose own tests are read otherwise than those inside them, what these have told is forgotten.
-pub fn renew(slots: &mut [u64], from: usize, to: usize, vars: &[usize; VARS])
+pub fn renew(slots: &mut [u64], from: usize, to: usize, vars: &Values)
     requires { from ≤ to }
-    ensures renewed { Renewed vars.now slots.old from to slots.new }
+    ensures renewed { Renewed (listed vars.now) slots.old from to slots.new }
     ensures long { length slots.new ≡ length slots.old }
 {
-    let own = vars[OWN];
-    let inner = vars[INNER];
-    if own != inner {
+    if vars.own != vars.inner {
         forget(slots, from, to);
     }
 }

@@ -33,15 +33,10 @@ pub fn clear(text: &[u8], slots: &mut [u64], from: usize, to: usize)
     ensures cleared { Cleared text.now slots.old from to slots.new }
     ensures long { length slots.new ≡ length slots.old }
 {
-    let mut i = from;
-    while i < to {
-        if slots.len() <= i {
-            return;
-        }
+    for i in from..to.min(slots.len()) {
         if text[i] == b'*' {
             slots[i] = 0;
         }
-        i += 1;
     }
 }
 
@@ -51,12 +46,8 @@ pub fn forget(slots: &mut [u64], from: usize, to: usize)
     ensures forgotten { Forgotten slots.old from to slots.new }
     ensures long { length slots.new ≡ length slots.old }
 {
-    let mut j = from;
-    while j < to {
-        if slots.len() <= j {
-            return;
-        }
-        slots[j] = 0;
-        j += 1;
+    let end = to.min(slots.len());
+    if from < end {
+        slots[from..end].fill(0);
     }
 }

@@ -7,8 +7,8 @@ use Prim.Native.Nat.{ℕ, ◌≤◌, ◌<◌}
 use native.Mathlib.Decide.{dec_lt}
 use native.Mathlib.Omega.{arith}
 use lib.ListN.{take}
-use Rattle.spelling.specs.declared.Digits.{Digits}
-use Rattle.spelling.specs.declared.Digits.TheVariants.{Number, Other}
+use Rattle.std.specs.Prelude.{Option}
+use Rattle.std.specs.Prelude.{Some, None}
 use Rattle.spelling.specs.Scan.{FirstLf, DigitsOf, NumberAt}
 use Rattle.spelling.specs.Wrote.{Wrote}
 use Rattle.spelling.proofs.Numeral.{same_number}
@@ -35,20 +35,20 @@ find_lf_determined bytes from a b f g = go (dec_lt a b) (dec_lt b a)
 
 -- `number_at` and `number_in`, for the bases that they can be asked for
 pub number_determined :
-    (base width : ℕ) (bytes : List ℕ) (r s : Digits) → 0 < base → base ≤ 16 → DigitsOf base width bytes r → DigitsOf base width bytes s → r ≡ s
-number_determined base width bytes (Number n) (Number m) pos few f g =
-    ap Number (same_number base width n m pos few f.0 g.0 (sym f.1 ∙ g.1))
-number_determined base width bytes (Number n) Other pos few f g = absurd (g n f.1)
-number_determined base width bytes Other (Number m) pos few f g = absurd (f m g.1)
-number_determined base width bytes Other Other pos few f g = refl
+    (base width : ℕ) (bytes : List ℕ) (r s : Option ℕ) → 0 < base → base ≤ 16 → DigitsOf base width bytes r → DigitsOf base width bytes s → r ≡ s
+number_determined base width bytes (Some n) (Some m) pos few f g =
+    ap Some (same_number base width n m pos few f.0 g.0 (sym f.1 ∙ g.1))
+number_determined base width bytes (Some n) None pos few f g = absurd (g n f.1)
+number_determined base width bytes None (Some m) pos few f g = absurd (f m g.1)
+number_determined base width bytes None None pos few f g = refl
 
 -- `two_digits`
-pub two_digits_determined : (text : List ℕ) (at : ℕ) (r s : Digits) → NumberAt text at r → NumberAt text at s → r ≡ s
-two_digits_determined text at (Number n) (Number m) f g =
-    ap Number (same_digits n m (ap (take 2) (sym f.1 ∙ g.1)))
-two_digits_determined text at (Number n) Other f g = absurd (g n _ f.0 f.1)
-two_digits_determined text at Other (Number m) f g = absurd (f m _ g.0 g.1)
-two_digits_determined text at Other Other f g = refl
+pub two_digits_determined : (text : List ℕ) (at : ℕ) (r s : Option ℕ) → NumberAt text at r → NumberAt text at s → r ≡ s
+two_digits_determined text at (Some n) (Some m) f g =
+    ap Some (same_digits n m (ap (take 2) (sym f.1 ∙ g.1)))
+two_digits_determined text at (Some n) None f g = absurd (g n _ f.0 f.1)
+two_digits_determined text at None (Some m) f g = absurd (f m _ g.0 g.1)
+two_digits_determined text at None None f g = refl
 
 -- the writers: the final content of the output, and the place behind what was written
 pub writer_determined :

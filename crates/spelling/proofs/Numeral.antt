@@ -57,7 +57,7 @@ digit_at base (suc width) n i pos l =
     (record { value = n % base; below = mod-lt n pos; shown = refl })
 
 -- a digit has one symbol
-same_digit : (d e : ℕ) → d < 16 → e < 16 → symbol d ≡ symbol e → d ≡ e
+pub same_digit : (d e : ℕ) → d < 16 → e < 16 → symbol d ≡ symbol e → d ≡ e
 same_digit d e hd he s = go (dec_lt d 10) (dec_lt e 10)
   where
     go : Dec (d < 10) → Dec (e < 10) → d ≡ e

@@ -4,11 +4,15 @@ use mathlib.Core.List.{List, [], ◌∷◌}
 use Prim.Native.Nat.{ℕ, zero, suc, ◌+◌, ◌-◌, ◌≤◌, ◌<◌}
 use native.Mathlib.Omega.{arith}
 use lib.ListN.{length, get_or, take, drop, length-drop}
-use lib.Seq.{length-take-le, take-take, drop-drop, get_or-take, get_or-drop}
+use lib.Seq.{length-take-le, take-take, take_all, drop-drop, get_or-take, get_or-drop}
 use Rattle.spelling.specs.Scan.{stretch}
 
 pub length_stretch : (bytes : List ℕ) (start end : ℕ) → end ≤ length bytes → length (stretch bytes start end) ≡ end - start
 length_stretch bytes start end within = length-take-le (end - start) (drop start bytes) (omega (arith, length-drop start bytes))
+
+-- what is left from a place on
+pub to_the_end : (bytes : List ℕ) (at : ℕ) → take (length bytes - at) (drop at bytes) ≡ drop at bytes
+to_the_end bytes at = take_all (length bytes - at) (drop at bytes) (omega (arith, length-drop at bytes))
 
 -- a run of bytes within the first n
 within_first : (size from n : ℕ) (l : List ℕ) → from + size ≤ n → take size (drop from (take n l)) ≡ take size (drop from l)

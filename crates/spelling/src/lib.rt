@@ -3,12 +3,5 @@
 pub mod scan; // scan.rt: reads digits, numbers, a key, the end of a line
 pub mod put; // put.rt: writes texts, numbers and actions into lent output
 
-// What a run of digits is.
-#[derive(Clone, Copy)]
-pub enum Digits {
-    Number(u32),
-    Other,
-}
-
 // A state or a mask is written as so many hex digits.
 pub const WORD_WIDTH: usize = 8;

@@ -1,4 +1,5 @@
 // Writers: each puts its bytes at a place of the lent output and hands back the place behind them. Knows no sheet.
+// Output and place are no struct: each function over one that keeps a lent output would have to promise besides that it is still the same output.
 ghost use Rattle.std.specs.Prelude.{◌≡◌, [], ◌∷◌, ◌+◌, ◌*◌, ◌≤◌, ◌<◌, length};
 ghost use Rattle.meaning.specs.Rule.{digits};
 ghost use Rattle.spelling.specs.Numeral;
@@ -20,13 +21,9 @@ pub fn text(out: &mut [u8], to: usize, text: &[u8]) -> usize
     requires { to + length text.now ≤ length out.old }
     ensures { Wrote out.old to text.now out.new result }
 {
-    let mut at = to;
-    let mut i = 0;
-    while i < text.len() {
-        at = byte(out, at, text[i]);
-        i += 1;
-    }
-    at
+    let end = to + text.len();
+    out[to..end].copy_from_slice(text);
+    end
 }
 
 // The byte of a digit: `0` to `9`, then `a` to `f`.
@@ -34,7 +31,11 @@ fn symbol(d: u32) -> u8
     requires { d < 16 }
     ensures { result ≡ Numeral.symbol d }
 {
-    if d < 10 { 48 + d as u8 } else { 87 + d as u8 }
+    if d < 10 {
+        b'0' + d as u8
+    } else {
+        b'a' + (d - 10) as u8
+    }
 }
 
 // A number in a base with so many digits, the highest first.
@@ -68,8 +69,7 @@ fn two_digits(out: &mut [u8], to: usize, n: u8) -> usize
     requires { to + 2 ≤ length out.old }
     ensures { Wrote out.old to (digits n) out.new result }
 {
-    let next = byte(out, to, b'0' + n / 10);
-    byte(out, next, b'0' + n % 10)
+    text(out, to, &[b'0' + n / 10, b'0' + n % 10])
 }
 
 // Actions, two digits each, run together.
@@ -78,10 +78,8 @@ pub fn actions(out: &mut [u8], to: usize, log: &[u8]) -> usize
     ensures { Wrote out.old to (log_text log.now) out.new result }
 {
     let mut at = to;
-    let mut i = 0;
-    while i < log.len() {
-        at = two_digits(out, at, log[i]);
-        i += 1;
+    for action in log {
+        at = two_digits(out, at, *action);
     }
     at
 }

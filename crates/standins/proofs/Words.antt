@@ -1,4 +1,4 @@
--- Words of the numbers that stand in a text and of the fluents of conditions, a place or an action after the other; and the signs that a text has. Knows words, text and masks.
+-- Words of the numbers that stand in a text and of the fluents of conditions, a place or an action after the other. Knows words, text and masks.
 use mathlib.Core.Path.{◌≡◌, refl, sym, ap, subst, ◌∙◌}
 use mathlib.Core.Logic.{◌⊎◌, ◌↔◌, inl, inr, ⊎_elim}
 use mathlib.Core.Bool.{Bool, true, false, not, ◌&&◌}
@@ -8,7 +8,6 @@ use native.Mathlib.Decide.{ℕ_discrete, dec_lt}
 use native.Mathlib.Omega.{arith}
 use lib.Bits.{bit_or}
 use lib.Dec.{ltb}
-use lib.ListN.{get_or}
 use borrow.Author.Tests.{not-false, eqb-true, eq-eqb, ne_eqb, lt-ltb}
 use Rattle.laws.specs.Bit.{on}
 use Rattle.laws.proofs.Truth.{off_on, or_iff}
@@ -18,11 +17,11 @@ use Rattle.laws.proofs.Shift.{on_not, on_one_shl}
 use Rattle.meaning.specs.Limits.{action_limit}
 use Rattle.meaning.specs.Theory.{Clause, Masks}
 use Rattle.meaning.specs.StandIn.{Decides}
-use Rattle.spelling.specs.declared.Digits.TheVariants.{Number, Other}
+use Rattle.std.specs.Prelude.{Some, None}
 use Rattle.spelling.specs.Scan.{NumberAt}
 use Rattle.spelling.proofs.Determined.{two_digits_determined}
 use Rattle.theory.specs.Subject.{table_masks}
-use Rattle.standins.specs.Worth.{others, Behind, Named, Sum, Unsummed, AnyStep, Decisive}
+use Rattle.standins.specs.Worth.{others, Behind, Named, Decisive}
 
 -- the lowest bit of a word that was shifted down is one of its bits
 pub bit_on : (word a : ℕ) → word / 2 ^ a % 2 ≡ 1 → on word a ≡ true
@@ -50,29 +49,29 @@ word_holds word i l low h = not-false (on word i) (sym (ap (λ (b : Bool). b && 
 -- the number at a place, as a bit
 module _ (text : List ℕ) (at : ℕ) where
   abbrev pub BitAt : ℕ → Type 0
-  BitAt word = (n : ℕ) → (on word n ≡ true) ↔ ((n < action_limit) × NumberAt text at (Number n))
+  BitAt word = (n : ℕ) → (on word n ≡ true) ↔ ((n < action_limit) × NumberAt text at (Some n))
 
-  pub one_bit : (m : ℕ) → m < action_limit → NumberAt text at (Number m) → BitAt (1 * 2 ^ m % 2 ^ action_limit)
+  pub one_bit : (m : ℕ) → m < action_limit → NumberAt text at (Some m) → BitAt (1 * 2 ^ m % 2 ^ action_limit)
   one_bit m low here n = (
     λ e.
         let same : n ≡ m = eqb-true n m (sym (on_one_shl m action_limit n low) ∙ e) in
-        (omega arith, subst (λ (k : ℕ). NumberAt text at (Number k)) (sym same) here),
+        (omega arith, subst (λ (k : ℕ). NumberAt text at (Some k)) (sym same) here),
     λ h.
-        let same = two_digits_determined text at (Number m) (Number n) here h.1 in
+        let same = two_digits_determined text at (Some m) (Some n) here h.1 in
         let e : m ≡ n = cc in
         on_one_shl m action_limit n low ∙ eq-eqb n m (sym e),
   )
 
-  pub no_bit : (m : ℕ) → action_limit ≤ m → NumberAt text at (Number m) → BitAt 0
+  pub no_bit : (m : ℕ) → action_limit ≤ m → NumberAt text at (Some m) → BitAt 0
   no_bit m high here n = (
     λ e. absurd (off_on (on_none n) e),
     λ h.
-        let same = two_digits_determined text at (Number m) (Number n) here h.1 in
+        let same = two_digits_determined text at (Some m) (Some n) here h.1 in
         let e : m ≡ n = cc in
         absurd (omega (arith, h.0)),
   )
 
-  pub no_number : NumberAt text at Other → BitAt 0
+  pub no_number : NumberAt text at None → BitAt 0
   no_number other n = (λ e. absurd (off_on (on_none n) e), λ h. absurd (other n _ h.1.0 h.1.1))
 
 -- the numbers behind two signs, a place after the other
@@ -94,38 +93,6 @@ module _ (text : List ℕ) (one other : ℕ) where
       ]),
     );
   }
-
--- no sum, and some sign that takes any action, a place after the other
-module _ (text : List ℕ) where
-  pub unsummed_none : Unsummed text 0
-  unsummed_none = record { each = λ at low. absurd (omega arith) }
-
-  pub unsummed_more : (k : ℕ) → (Sum (get_or text k 0) → ⊥) → Unsummed text k → Unsummed text (k + 1)
-  unsummed_more k here d = record {
-    each = λ at low h. elim (ℕ_discrete at k) [
-      | yes e ↦ here (subst (λ (i : ℕ). Sum (get_or text i 0)) e h)
-      | no e ↦ d.each at (omega arith) h
-    ];
-  }
-
-  -- whether there is one, in a flag
-  abbrev pub Flagged : Bool → ℕ → Type 0
-  Flagged any k = (any ≡ true) ↔ AnyStep text k
-
-  pub flag_none : Flagged false 0
-  flag_none = (λ e. absurd (off_on refl e), λ h. absurd (omega (arith, h.1)))
-
-  pub flag_set : (k : ℕ) → get_or text k 0 ≡ 110 → Flagged true (k + 1)
-  flag_set k here = (λ e. (k, omega arith, here), λ h. refl)
-
-  pub flag_kept : (any : Bool) (k : ℕ) → (get_or text k 0 ≡ 110 → ⊥) → Flagged any k → Flagged any (k + 1)
-  flag_kept any k other d = (
-    λ e. let old = d.0 e in (old.0, omega (arith, old.1), old.2),
-    λ h. elim (ℕ_discrete h.0 k) [
-      | yes e ↦ absurd (other (subst (λ (i : ℕ). get_or text i 0 ≡ 110) e h.2))
-      | no e ↦ d.1 (h.0, omega (arith, h.1), h.2)
-    ],
-  )
 
 -- the fluents of an action's conditions, in one word
 pub decides_word : (m : Masks) (i : ℕ)

@@ -1,12 +1,11 @@
 -- Which actions a search need not try: those that a smaller one stands in for, as the mask table and the job's text tell it. What the functions that look for them find. Knows masks and text;
 -- no walk and no log.
-use Rattle.std.specs.Prelude.{◌≡◌, ◌⊎◌, ◌↔◌, true, false, List, ℕ, ◌+◌, ◌-◌, ◌*◌, ◌^◌, ◌≤◌, ◌<◌, length, get_or}
+use Rattle.std.specs.Prelude.{◌≡◌, Some, ◌⊎◌, ◌↔◌, true, false, List, ℕ, ◌+◌, ◌-◌, ◌*◌, ◌^◌, ◌≤◌, ◌<◌, length, get_or}
 use Rattle.std.specs.Int.Bits.{bit_or}
 use Rattle.laws.specs.Bit.{on}
 use Rattle.meaning.specs.Limits.{action_limit}
 use Rattle.meaning.specs.Theory.{stride}
 use Rattle.meaning.specs.StandIn.{Decides, Alike, StandsIn}
-use Rattle.spelling.specs.declared.Digits.TheVariants.{Number}
 use Rattle.spelling.specs.Scan.{NumberAt}
 use Rattle.theory.specs.Subject.{table_masks}
 
@@ -21,7 +20,7 @@ others word = 2 ^ action_limit - 1 - word
 
 -- behind one of two signs, at this place of the text, stands this number
 abbrev pub Behind : List ℕ → ℕ → ℕ → ℕ → ℕ → Type 0
-Behind text one other at n = ((get_or text at 0 ≡ one) ⊎ (get_or text at 0 ≡ other)) × NumberAt text (at + 1) (Number n)
+Behind text one other at n = ((get_or text at 0 ≡ one) ⊎ (get_or text at 0 ≡ other)) × NumberAt text (at + 1) (Some n)
 
 -- the word holds the numbers of actions that stand behind one of two signs in the first k places
 pub record Named (text : List ℕ) (one other k word : ℕ) : Type 0 where

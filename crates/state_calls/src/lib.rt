@@ -5,12 +5,8 @@ ghost use Rattle.theory.specs.Answer.{StateAnswered};
 ghost use Rattle.theory.specs.Possible.{PossibleAnswered};
 ghost use Rattle.exported.specs.Exported.{asked, InSlot};
 
-use theory::{Counts, PossibleAnswer, Setting, StateAnswer};
-
-// A verdict in its slot.
-const YES: u8 = 1;
-
-const NO: u8 = 0;
+use exported::{told, verdict_told};
+use theory::{Asked, Setting};
 
 // The state at a position of the log.
 #[unsafe(no_mangle)]
@@ -25,26 +21,13 @@ pub extern "C" fn wyh_state(
 ) -> u8
     ensures { StateAnswered (asked fluents actions 0 start 0 masks.now log.now) position result state.new }
 {
-    let counts = Counts {
-        fluents,
-        actions,
-        domain: 0,
+    let setting = Setting::of(fluents, actions, 0, start, 0);
+    let asked = Asked {
+        setting,
+        masks,
+        log,
     };
-    let s = Setting {
-        counts,
-        start,
-        reading: 0,
-    };
-    match theory::state(s, masks, log, position) {
-        StateAnswer::Refused(why) => {
-            *state = 0;
-            refusal::number(why)
-        }
-        StateAnswer::State(s) => {
-            *state = s;
-            0
-        }
-    }
+    told(theory::state(asked, position), 0, state)
 }
 
 // Whether an action may be taken at a position of the log: 1 or 0 in the slot.
@@ -61,28 +44,11 @@ pub extern "C" fn wyh_possible(
 ) -> u8
     ensures { InSlot (PossibleAnswered (asked fluents actions 0 start 0 masks.now log.now) action position result) yes.new }
 {
-    let counts = Counts {
-        fluents,
-        actions,
-        domain: 0,
+    let setting = Setting::of(fluents, actions, 0, start, 0);
+    let asked = Asked {
+        setting,
+        masks,
+        log,
     };
-    let s = Setting {
-        counts,
-        start,
-        reading: 0,
-    };
-    match theory::possible(s, masks, log, action, position) {
-        PossibleAnswer::Refused(why) => {
-            *yes = 0;
-            refusal::number(why)
-        }
-        PossibleAnswer::Yes => {
-            *yes = YES;
-            0
-        }
-        PossibleAnswer::No => {
-            *yes = NO;
-            0
-        }
-    }
+    verdict_told(theory::possible(asked, action, position), yes)
 }

@@ -10,7 +10,7 @@ use Rattle.positions.specs.declared.PositionSet.{PositionSet}
 use Rattle.positions.specs.Positions.{holds, Proper}
 use Rattle.positions.proofs.Held.{same_set}
 use Rattle.tables.specs.Tables.{among_holds}
-use Rattle.spelling.specs.declared.Digits.TheVariants.{Number}
+use Rattle.std.specs.declared.option.Option.TheVariants.{Some}
 use Rattle.spelling.specs.Scan.{NumberAt}
 use Rattle.grammar.specs.Letters.{Lettered}
 use Rattle.runs.specs.Image.{UpTo}
@@ -19,7 +19,7 @@ use Rattle.runs.specs.Found.{Numbered, Tabled, LeafHere, LeafFound}
 
 -- `named`: the number that stands there
 pub named_determined : {bytes : List ℕ} {at : ℕ} → Numbered bytes at → (r s : ℕ)
-    → ((n : ℕ) → NumberAt bytes at (Number n) → r ≡ n) → ((n : ℕ) → NumberAt bytes at (Number n) → s ≡ n) → r ≡ s
+    → ((n : ℕ) → NumberAt bytes at (Some n) → r ≡ n) → ((n : ℕ) → NumberAt bytes at (Some n) → s ≡ n) → r ≡ s
 named_determined here r s f g = f here.number here.digits ∙ sym (g here.number here.digits)
 
 -- `place_of` with `place` and `value_of` with `value_in`: what the variable whose letter stands there has
@@ -31,14 +31,14 @@ letter_determined of here r s f g = f here.variable here.stands ∙ sym (g here.
 module _ (r s : PositionSet) (proper : Proper r) (proper' : Proper s) where
   -- `row`
   pub row_determined : {bytes : List ℕ} {at : ℕ} (rows : List ℕ) (first many : ℕ) → Numbered bytes at
-      → ((n q : ℕ) → NumberAt bytes at (Number n) → holds r q ≡ among_holds rows first many n q)
-      → ((n q : ℕ) → NumberAt bytes at (Number n) → holds s q ≡ among_holds rows first many n q) → r ≡ s
+      → ((n q : ℕ) → NumberAt bytes at (Some n) → holds r q ≡ among_holds rows first many n q)
+      → ((n q : ℕ) → NumberAt bytes at (Some n) → holds s q ≡ among_holds rows first many n q) → r ≡ s
   row_determined rows first many here f g = same_set r s proper proper' (λ q. f here.number q here.digits ∙ sym (g here.number q here.digits))
 
   -- `sum_row`
   pub sum_row_determined : {bytes : List ℕ} {at : ℕ} (rows bound : List ℕ) (first many : ℕ) → SumHere bytes at
-      → ((n q : ℕ) (v : Variable) → NumberAt bytes at (Number n) → Lettered bytes (at + 2) v → holds r q ≡ among_holds rows first many (n + value_in bound v) q)
-      → ((n q : ℕ) (v : Variable) → NumberAt bytes at (Number n) → Lettered bytes (at + 2) v → holds s q ≡ among_holds rows first many (n + value_in bound v) q) → r ≡ s
+      → ((n q : ℕ) (v : Variable) → NumberAt bytes at (Some n) → Lettered bytes (at + 2) v → holds r q ≡ among_holds rows first many (n + value_in bound v) q)
+      → ((n q : ℕ) (v : Variable) → NumberAt bytes at (Some n) → Lettered bytes (at + 2) v → holds s q ≡ among_holds rows first many (n + value_in bound v) q) → r ≡ s
   sum_row_determined rows bound first many here f g =
       let v = here.letter.variable in
       let l = here.letter.stands in

@@ -1,35 +1,29 @@
 // The signs with no part: one step of the log, up or down, and the row of a table that a sign names. Knows no other sign.
-ghost use Rattle.std.specs.Prelude.{◌≡◌, ℕ, ◌+◌, ◌≤◌, ◌<◌};
+ghost use Rattle.std.specs.Prelude.{Some, ◌≡◌, ℕ, ◌+◌, ◌≤◌, ◌<◌};
 ghost use Rattle.meaning.specs.Limits.{places};
 ghost use Rattle.positions.specs.Positions.{holds};
 ghost use Rattle.tables.specs.Tables.{row_count, among_holds};
-ghost use Rattle.spelling.specs.declared.Digits.TheVariants.{Number};
 ghost use Rattle.spelling.specs.Scan.{NumberAt};
 ghost use Rattle.meaning.specs.Rule.{Variable};
 ghost use Rattle.grammar.specs.Letters.{Lettered};
 ghost use Rattle.runs.specs.Values.{value_in, SumHere};
 ghost use Rattle.runs.specs.Image.{UpTo, Image, Turn, Crossing};
 ghost use Rattle.runs.specs.Found.{Numbered, LeafHere, LeafFound};
+ghost use Rattle.steps.specs.Values.{listed};
 
-use crate::letters::{VARS, value_of};
+use crate::letters::{Values, value_of};
 use positions::PositionSet;
 use tables::{ACTION_ROWS, POSSIBLE_ROW, ROWS};
 use theory::ACTION_LIMIT;
 
-pub(crate) fn wide(b: u8) -> usize
-    ensures { (result ≡ b) × (result < 256) }
-{
-    b as usize
-}
-
 // The number at a place where one stands. It is read at every visit of a sign, so it is not looked for again whether its bytes are digits.
 pub fn named(text: &[u8], at: usize) -> usize
     requires { Numbered text.now at }
-    ensures { (n : ℕ) → NumberAt text.now at (Number n) → result ≡ n }
+    ensures { (n : ℕ) → NumberAt text.now at (Some n) → result ≡ n }
 {
     let second = at + 1;
-    let tens = wide(text[at]);
-    let ones = wide(text[second]);
+    let tens = usize::from(text[at]);
+    let ones = usize::from(text[second]);
     (tens - 48) * 10 + (ones - 48)
 }
 
@@ -52,7 +46,7 @@ fn row_of(n: usize, value: usize, rows: &[u64; ROWS], first: usize, many: usize)
 // The row that the number at a place names.
 pub fn row(text: &[u8], at: usize, rows: &[u64; ROWS], first: usize, many: usize) -> PositionSet
     requires { Numbered text.now at × (first + many ≤ row_count) }
-    ensures { (n q : ℕ) → NumberAt text.now at (Number n) → holds result q ≡ among_holds rows.now first many n q }
+    ensures { (n q : ℕ) → NumberAt text.now at (Some n) → holds result q ≡ among_holds rows.now first many n q }
 {
     let n = named(text, at);
     row_of(n, 0, rows, first, many)
@@ -63,12 +57,12 @@ pub fn sum_row(
     text: &[u8],
     at: usize,
     rows: &[u64; ROWS],
-    vars: &[usize; VARS],
+    vars: &Values,
     first: usize,
     many: usize,
 ) -> PositionSet
     requires { SumHere text.now at × (first + many ≤ row_count) }
-    ensures { (n q : ℕ) (v : Variable) → NumberAt text.now at (Number n) → Lettered text.now (at + 2) v → holds result q ≡ among_holds rows.now first many (n + value_in vars.now v) q }
+    ensures { (n q : ℕ) (v : Variable) → NumberAt text.now at (Some n) → Lettered text.now (at + 2) v → holds result q ≡ among_holds rows.now first many (n + value_in (listed vars.now) v) q }
 {
     let n = named(text, at);
     let letter = at + 2;
@@ -99,10 +93,10 @@ pub fn leaf(
     now: usize,
     back: bool,
     rows: &[u64; ROWS],
-    vars: &[usize; VARS],
+    vars: &Values,
 ) -> PositionSet
     requires { LeafHere text.now at }
-    ensures { LeafFound text.now at back rows.now vars.now now (holds from) (holds result) }
+    ensures { LeafFound text.now at back rows.now (listed vars.now) now (holds from) (holds result) }
 {
     let sign = text[at];
     let name = at + 1;

@@ -4,11 +4,11 @@
 ghost use Rattle.std.specs.Prelude.{◌≡◌, ◌&&◌, ℕ, ◌≤◌, ◌<◌, leb, length};
 ghost use Rattle.laws.specs.Bit.{on};
 ghost use Rattle.meaning.specs.Limits.{action_limit, log_limit, places};
-ghost use Rattle.theory.specs.Subject.{Readable, subject_of, world_of};
+ghost use Rattle.theory.specs.Subject.{Readable, subject, world_of};
 ghost use Rattle.tables.specs.Tables.{row_count, Describes, Noted, Reversed, Toggled};
 
 use positions::PositionSet;
-use theory::{ACTION_LIMIT, FLUENT_LIMIT, Setting, step};
+use theory::{ACTION_LIMIT, Asked, FLUENT_LIMIT, step};
 
 // The rows in their order: the actions, the fluents, and the steps that were possible.
 pub const ACTION_ROWS: usize = 0;
@@ -17,6 +17,7 @@ pub const FLUENT_ROWS: usize = ACTION_ROWS + ACTION_LIMIT;
 
 pub const POSSIBLE_ROW: usize = FLUENT_ROWS + FLUENT_LIMIT;
 
+// so many in an array, and no `Vec`: the library has fixed memory
 pub const ROWS: usize = POSSIBLE_ROW + 1;
 
 // The step at position p is action a: if it was possible, it is noted for the action and among the possible ones.
@@ -26,11 +27,8 @@ fn note(rows: &mut [u64; ROWS], a: usize, p: usize, able: bool)
 {
     if able {
         let bit = 1u64 << p;
-        let row = ACTION_ROWS + a;
-        let taken = rows[row];
-        rows[row] = taken | bit;
-        let possible = rows[POSSIBLE_ROW];
-        rows[POSSIBLE_ROW] = possible | bit;
+        rows[ACTION_ROWS + a] |= bit;
+        rows[POSSIBLE_ROW] |= bit;
     }
 }
 
@@ -41,46 +39,41 @@ fn onward(p: usize, n: usize) -> u64
 {
     let beyond = PositionSet::LOG_LIMIT - n;
     let most = !0u64 >> beyond;
-    let above = most >> p;
-    above << p
+    most >> p << p
 }
 
 // Each fluent that changed is the other way at these positions: a turn for each.
+#[tactic(auto, using(laws::proofs::First::lowest_within))]
 fn turn(rows: &mut [u64; ROWS], changed: u32, places: u64)
     requires { length rows.old ≡ row_count }
     ensures { Reversed rows.old rows.new changed places }
 {
     let mut rest = changed;
+    // over the members of a set, of which there is no iterator: it counts no index
     while rest != 0 {
-        let first = u32::trailing_zeros(rest);
-        let i = first as usize;
-        let row = FLUENT_ROWS + i;
-        let old = rows[row];
-        rows[row] = old ^ places;
-        let one = 1u32 << i;
-        rest = rest ^ one;
+        let i = rest.trailing_zeros() as usize;
+        rows[FLUENT_ROWS + i] ^= places;
+        rest ^= 1u32 << i;
     }
 }
 
 // All rows, in one pass over the log: a state stands from its position on, until one after it turns what it changes. Whatever the rows held is gone.
-pub fn transpose(s: Setting, masks: &[u32], log: &[u8], rows: &mut [u64; ROWS])
-    requires { Readable masks.now log.now }
-    ensures { Describes (world_of (subject_of s masks.now log.now)) rows.new }
+pub fn transpose(asked: Asked, rows: &mut [u64; ROWS])
+    requires { Readable asked.masks.now asked.log.now }
+    ensures { Describes (world_of (subject asked.entry)) rows.new }
 {
     *rows = [0u64; ROWS];
-    let start = s.start;
-    let n = log.len();
+    let start = asked.setting.start;
+    let n = asked.log.len();
     let all = onward(0, n);
     turn(rows, start, all);
     let mut state = start;
-    let mut p = 0;
-    while p < n {
-        let a = log[p] as usize;
-        let able = step::able(masks, a, state);
+    for (p, a) in asked.log.iter().enumerate() {
+        let a = usize::from(*a);
+        let able = step::able(asked.masks, a, state);
         note(rows, a, p, able);
-        let next = step::act(masks, a, state);
-        p += 1;
-        let rest = onward(p, n);
+        let next = step::act(asked.masks, a, state);
+        let rest = onward(p + 1, n);
         let changed = state ^ next;
         turn(rows, changed, rest);
         state = next;
@@ -94,12 +87,8 @@ pub fn toggle(rows: &mut [u64; ROWS], a: usize, p: usize, behind: u32)
     ensures { Toggled rows.old rows.new a p behind }
 {
     let bit = 1u64 << p;
-    let row = ACTION_ROWS + a;
-    let taken = rows[row];
-    rows[row] = taken ^ bit;
-    let possible = rows[POSSIBLE_ROW];
-    rows[POSSIBLE_ROW] = possible ^ bit;
-    let next = p + 1;
-    let there = 1u64 << next;
+    rows[ACTION_ROWS + a] ^= bit;
+    rows[POSSIBLE_ROW] ^= bit;
+    let there = 1u64 << (p + 1);
     turn(rows, behind, there);
 }

@@ -1,26 +1,27 @@
 -- Any two outcomes that a contract allows are equal, records field by field; and the record of a log is one, however the library made it.
-use mathlib.Core.Path.{◌≡◌, refl, sym, ap, ◌∙◌}
+use mathlib.Core.Path.{◌≡◌, refl, sym, ◌∙◌}
 use mathlib.Core.Logic.{⊎_elim}
-use mathlib.Core.Bool.{false≢true}
+use mathlib.Core.Bool.{Bool}
 use mathlib.Core.List.{List, []}
-use mathlib.Core.Option.{some-injective}
 use Prim.Native.Nat.{ℕ, ◌<◌}
 use native.Mathlib.Omega.{arith}
 use lib.Seq.{ext_get_or}
+use Rattle.std.specs.Prelude.{Result}
 use Rattle.laws.proofs.Truth.{off_on, true_or_false}
-use Rattle.refusal.proofs.Numbers.{one_number, some_number}
+use Rattle.refusal.specs.declared.Refusal.{Refusal}
+use Rattle.refusal.specs.Given.{number_given}
 use Rattle.meaning.specs.Limits.{action_limit}
 use Rattle.meaning.specs.Theory.{Masks, World}
 use Rattle.meaning.specs.Refusal.{falls}
 use Rattle.meaning.proofs.Possible.{possible, possible_tells}
 use Rattle.meaning.proofs.Refusal.{answered_determined, one_verdict}
 use Rattle.theory.specs.Subject.{Subject, world_of}
+use Rattle.theory.specs.Possible.{verdict_given}
 use Rattle.theory.specs.declared.Setting.{Setting}
+use Rattle.theory.proofs.Determined.{same_verdict}
 use Rattle.tally.specs.Record.{TallyOf, Grown}
-use Rattle.tally.specs.Calls.{Remade, append_rows, Appended, happened_rows, number_given, verdict_given, HappenedAnswered}
+use Rattle.tally.specs.Calls.{Remade, append_rows, Appended, happened_rows, HappenedAnswered}
 use Rattle.tally.specs.declared.Tally.{Tally}
-use Rattle.tally.specs.declared.HappenedAnswer.{HappenedAnswer}
-use Rattle.tally.specs.declared.HappenedAnswer.TheVariants.{Refused as Declined, Yes, No}
 use Rattle.tally.proofs.Places.{one_last, one_count}
 
 -- a record is its fields
@@ -66,24 +67,13 @@ pub append_determined : (s : Setting) (masks : List ℕ) (before : Tally) (a : �
     → Appended s masks before a n t → Appended s masks before a n' u → (n ≡ n') × (t ≡ u)
 append_determined s masks before a x y = answered_determined x y (λ e p q. (e, p ∙ sym q)) (λ e p q. (e, grown_determined _ a p q))
 
--- the quick yes: an answer is its number and its verdict
-same_answer : (a b : HappenedAnswer) → number_given a ≡ number_given b → verdict_given a ≡ verdict_given b → a ≡ b
-same_answer (Declined r) (Declined q) n v = ap Declined (one_number r q n)
-same_answer (Declined r) Yes n v = absurd (some_number r n)
-same_answer (Declined r) No n v = absurd (some_number r n)
-same_answer Yes (Declined r) n v = absurd (some_number r (sym n))
-same_answer No (Declined r) n v = absurd (some_number r (sym n))
-same_answer Yes Yes n v = refl
-same_answer Yes No n v = absurd (false≢true (sym (some-injective _ _ v)))
-same_answer No Yes n v = absurd (false≢true (some-injective _ _ v))
-same_answer No No n v = refl
-
-pub happened_determined : (actions : ℕ) (last : List ℕ) (impossible action : ℕ) (a b : HappenedAnswer)
+-- the quick yes
+pub happened_determined : (actions : ℕ) (last : List ℕ) (impossible action : ℕ) (a b : Result Bool Refusal)
     → HappenedAnswered actions last impossible action (number_given a) (verdict_given a)
     → HappenedAnswered actions last impossible action (number_given b) (verdict_given b)
     → a ≡ b
 happened_determined actions last impossible action a b x y =
-    answered_determined x y (λ n p q. same_answer a b n (p ∙ sym q)) (λ n p q. same_answer a b n (one_verdict p q))
+    answered_determined x y (λ n p q. same_verdict a b n (p ∙ sym q)) (λ n p q. same_verdict a b n (one_verdict p q))
 
 -- their numbers rise
 pub append_rises : (s : Setting) (masks : List ℕ) (t : Tally) (a : ℕ) → falls (append_rows s masks t a) ≡ []

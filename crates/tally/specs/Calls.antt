@@ -1,8 +1,7 @@
 -- Request Q-5, the three calls: a record made afresh, one append, the quick yes. What each answers, and the rows of refusal that it has. On a refusal "the record
 -- stays equal to what it was".
-use Rattle.std.specs.Prelude.{◌≡◌, ◌⊎◌, Bool, true, false, List, [], ◌∷◌, ◌++◌, ℕ, ◌≤◌, ◌<◌, get_or}
-use Rattle.std.proofs.Math.Option.{Option, some}
-use Rattle.refusal.specs.Number.{number_of}
+use Rattle.std.specs.Prelude.{◌≡◌, ◌⊎◌, Bool, List, [], ◌∷◌, ◌++◌, ℕ, ◌≤◌, ◌<◌, get_or}
+use Rattle.std.proofs.Math.Option.{Option}
 use Rattle.meaning.specs.Limits.{action_limit, log_limit}
 use Rattle.meaning.specs.Refusal.{Row, ◌when◌, Answered, no_verdict, YesOrNo}
 use Rattle.theory.specs.Subject.{Subject, table_masks, world_of}
@@ -10,8 +9,6 @@ use Rattle.theory.specs.Rows.{theory_rows, world_rows}
 use Rattle.theory.specs.declared.Setting.{Setting}
 use Rattle.tally.specs.Record.{TallyOf, Grown}
 use Rattle.tally.specs.declared.Tally.{Tally}
-use Rattle.tally.specs.declared.HappenedAnswer.{HappenedAnswer}
-use Rattle.tally.specs.declared.HappenedAnswer.TheVariants.{Refused, Yes, No}
 
 -- "made afresh from the log"
 abbrev pub Remade : Subject → Tally → ℕ → Tally → Type 0
@@ -27,17 +24,6 @@ append_rows s masks t action = theory_rows s masks ++ full_rows s t action
 abbrev pub Appended : Setting → List ℕ → Tally → ℕ → ℕ → Tally → Type 0
 Appended s masks before action number after =
     Answered (append_rows s masks before action) number (after ≡ before) (Grown (table_masks masks action) action before after)
-
--- the refusal's number, 0 for none, and the quick yes, which a refusal has none of
-abbrev pub number_given : HappenedAnswer → ℕ
-number_given (Refused r) = number_of r
-number_given Yes = 0
-number_given No = 0
-
-abbrev pub verdict_given : HappenedAnswer → Option Bool
-verdict_given (Refused r) = no_verdict
-verdict_given Yes = some true
-verdict_given No = some false
 
 -- 3 where the count of actions is out of its range; "7 for asking about" an unknown action
 abbrev pub happened_rows : ℕ → ℕ → List {1} Row

@@ -1,14 +1,17 @@
 #![tactic(auto)]
 // A running tally beside the log of one job: each action's count of possible occurrences and its last one, the last impossible step, and what the next append
 // needs. A place is kept as the position after the step, 0 for none, so that the quick yes is one comparison. Knows theory and log, and no rule.
+ghost use Rattle.std.specs.Prelude.{◌≡◌};
+ghost use Rattle.refusal.specs.Given.{number_given, value_given};
 ghost use Rattle.theory.specs.Subject.{setting_of, subject_of};
-ghost use Rattle.tally.specs.Calls.{Remade, Appended, number_given, verdict_given, HappenedAnswered};
+ghost use Rattle.theory.specs.Possible.{verdict_given};
+ghost use Rattle.tally.specs.Calls.{Remade, Appended, HappenedAnswered};
 
 mod grow; // grow.rt: one step more, and the steps of a log
 
 use positions::PositionSet;
 use refusal::Refusal;
-use theory::{ACTION_LIMIT, Check, Counts, Setting, faults};
+use theory::{ACTION_LIMIT, Asked, Setting, faults};
 
 // The record that the scheduler lends. Any bytes are a record; one that the library did not make is taken by its fields as they stand.
 #[derive(Clone, Copy)]
@@ -24,22 +27,7 @@ pub struct Tally {
     pub impossible: u8,
 }
 
-// The record after a call, and the refusal's number, 0 for none.
-#[derive(Clone, Copy)]
-pub struct Left {
-    pub tally: Tally,
-    pub refusal: u8,
-}
-
-// What the call `happened` answers.
-#[derive(Clone, Copy)]
-pub enum HappenedAnswer {
-    Refused(Refusal),
-    Yes,
-    No,
-}
-
-// The record of a log, made afresh.
+// The record of a log, made afresh; on a refusal it is as it was, which the clause says of `t`: no line of the body reads it.
 pub fn remade(
     fluents: usize,
     actions: usize,
@@ -47,32 +35,20 @@ pub fn remade(
     masks: &[u32],
     log: &[u8],
     t: Tally,
-) -> Left
-    ensures { Remade (subject_of (setting_of fluents actions 0 start 0) masks.now log.now) t result.refusal result.tally }
+) -> Result<Tally, Refusal>
+    ensures { Remade (subject_of (setting_of fluents actions 0 start 0) masks.now log.now) t (number_given result) (value_given t result) }
 {
-    let counts = Counts {
-        fluents,
-        actions,
-        domain: 0,
+    let setting = Setting::of(fluents, actions, 0, start, 0);
+    let asked = Asked {
+        setting,
+        masks,
+        log,
     };
-    let s = Setting {
-        counts,
-        start,
-        reading: 0,
-    };
-    match faults::check_world(s, masks, log) {
-        Check::Refused(why) => {
-            let refusal = refusal::number(why);
-            Left { tally: t, refusal }
-        }
-        Check::Sound => {
-            let tally = grow::over(s, masks, log);
-            Left { tally, refusal: 0 }
-        }
-    }
+    faults::check_world(asked)?;
+    Ok(grow::over(asked))
 }
 
-// The record with one action more. An impossible one is taken in too.
+// The record with one action more. An impossible one is taken in too. On a refusal it is as it was.
 pub fn appended(
     fluents: usize,
     actions: usize,
@@ -80,42 +56,15 @@ pub fn appended(
     masks: &[u32],
     t: Tally,
     action: usize,
-) -> Left
-    ensures { Appended (setting_of fluents actions 0 start 0) masks.now t action result.refusal result.tally }
+) -> Result<Tally, Refusal>
+    ensures { Appended (setting_of fluents actions 0 start 0) masks.now t action (number_given result) (value_given t result) }
 {
-    let counts = Counts {
-        fluents,
-        actions,
-        domain: 0,
-    };
-    let s = Setting {
-        counts,
-        start,
-        reading: 0,
-    };
-    match faults::check_theory(s, masks) {
-        Check::Refused(why) => {
-            let refusal = refusal::number(why);
-            Left { tally: t, refusal }
-        }
-        Check::Sound => {
-            let steps = t.steps as usize;
-            if PositionSet::LOG_LIMIT <= steps {
-                return Left {
-                    tally: t,
-                    refusal: 5,
-                };
-            }
-            if actions <= action {
-                return Left {
-                    tally: t,
-                    refusal: 5,
-                };
-            }
-            let tally = grow::grown(masks, action, t);
-            Left { tally, refusal: 0 }
-        }
+    let s = Setting::of(fluents, actions, 0, start, 0);
+    faults::check_theory(s, masks)?;
+    if PositionSet::LOG_LIMIT <= usize::from(t.steps) || actions <= action {
+        return Err(Refusal::BadLog);
     }
+    Ok(grow::grown(masks, action, t))
 }
 
 // The quick yes: the action's last possible occurrence comes after the last impossible step.
@@ -124,31 +73,37 @@ pub fn compared(
     last: &[u8; ACTION_LIMIT],
     impossible: u8,
     action: usize,
-) -> HappenedAnswer
+) -> Result<bool, Refusal>
     ensures { HappenedAnswered actions last.now impossible action (number_given result) (verdict_given result) }
 {
-    if actions < 1 {
-        return HappenedAnswer::Refused(Refusal::BadNumber);
-    }
-    if ACTION_LIMIT < actions {
-        return HappenedAnswer::Refused(Refusal::BadNumber);
+    if actions < 1 || ACTION_LIMIT < actions {
+        return Err(Refusal::BadNumber);
     }
     if actions <= action {
-        return HappenedAnswer::Refused(Refusal::LacksName);
+        return Err(Refusal::LacksName);
     }
-    let place = last[action];
-    if impossible < place {
-        return HappenedAnswer::Yes;
-    }
-    HappenedAnswer::No
+    Ok(impossible < last[action])
 }
 
 // The same of a whole record.
-pub fn happened(actions: usize, t: Tally, action: usize) -> HappenedAnswer
+pub fn happened(actions: usize, t: Tally, action: usize) -> Result<bool, Refusal>
     ensures { HappenedAnswered actions t.last t.impossible action (number_given result) (verdict_given result) }
 {
-    let last = t.last;
-    compared(actions, &last, t.impossible, action)
+    compared(actions, &t.last, t.impossible, action)
+}
+
+// What a call leaves in the record that it was lent: what it made, and on a refusal what stood there. And its number.
+fn left(t: &mut Tally, made: Result<Tally, Refusal>) -> u8
+    ensures number { result ≡ number_given made }
+    ensures kept { t.new ≡ value_given t.old made }
+{
+    match made {
+        Ok(tally) => {
+            *t = tally;
+            0
+        }
+        Err(why) => u8::from(why),
+    }
 }
 
 // The record lent, and made afresh; on a refusal it stays as it is.
@@ -162,9 +117,8 @@ pub fn reset(
 ) -> u8
     ensures { Remade (subject_of (setting_of fluents actions 0 start 0) masks.now log.now) t.old result t.new }
 {
-    let r = remade(fluents, actions, start, masks, log, *t);
-    *t = r.tally;
-    r.refusal
+    let made = remade(fluents, actions, start, masks, log, *t);
+    left(t, made)
 }
 
 // The record lent, and one action appended; on a refusal it stays as it is.
@@ -178,7 +132,6 @@ pub fn append(
 ) -> u8
     ensures { Appended (setting_of fluents actions 0 start 0) masks.now t.old action result t.new }
 {
-    let r = appended(fluents, actions, start, masks, *t, action);
-    *t = r.tally;
-    r.refusal
+    let longer = appended(fluents, actions, start, masks, *t, action);
+    left(t, longer)
 }

@@ -5,13 +5,9 @@ ghost use Rattle.theory.specs.Subject.{setting_of};
 ghost use Rattle.tally.specs.Calls.{Remade, Appended, HappenedAnswered};
 ghost use Rattle.exported.specs.Exported.{asked, InSlot};
 
-use tally::{HappenedAnswer, Tally};
+use exported::verdict_told;
+use tally::Tally;
 use theory::ACTION_LIMIT;
-
-// A verdict in its slot.
-const YES: u8 = 1;
-
-const NO: u8 = 0;
 
 // The record of the log, made afresh in the lent one, which a refusal leaves as it was.
 #[unsafe(no_mangle)]
@@ -54,18 +50,5 @@ pub extern "C" fn wyh_happened(
 ) -> u8
     ensures { InSlot (HappenedAnswered actions last.now impossible action result) yes.new }
 {
-    match tally::compared(actions, last, impossible, action) {
-        HappenedAnswer::Refused(why) => {
-            *yes = 0;
-            refusal::number(why)
-        }
-        HappenedAnswer::Yes => {
-            *yes = YES;
-            0
-        }
-        HappenedAnswer::No => {
-            *yes = NO;
-            0
-        }
-    }
+    verdict_told(tally::compared(actions, last, impossible, action), yes)
 }

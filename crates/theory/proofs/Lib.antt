@@ -5,3 +5,4 @@ pub mod Determined
 pub mod Any
 pub mod Stands
 pub mod Plain
+pub mod Verdict

@@ -1,25 +1,18 @@
--- Rows of the table that are made from four masks: what ten stores leave, which actions such a table has, and that its states are those of document 01. Knows
--- lists and the table's layout; no code.
+-- Rows of the table that are made from four masks: which actions such a table has, and that its states are those of document 01. Knows lists and the table's
+-- layout; no code.
 use mathlib.Core.Path.{◌≡◌, refl, sym, ap, ◌∙◌}
 use mathlib.Core.Logic.{◌⊎◌, inl, inr}
 use mathlib.Core.List.{List, [], ◌∷◌, ◌++◌}
 use Prim.Native.Nat.{ℕ, zero, suc, ◌+◌, ◌-◌, ◌*◌, ◌≤◌, ◌<◌}
 use native.Mathlib.Decide.{dec_lt}
-use native.Mathlib.Numerals.{unary_clauses}
 use native.Mathlib.Omega.{arith}
-use lib.ListN.{length, get_or, set, take, drop, length-append, length-drop, get_or-append, get_or-eq_default}
-use lib.Seq.{sets-eq, get_or-append-add, get_or-take, get_or-drop, length-take-le}
+use lib.ListN.{length, get_or, take, drop, length-append, length-drop, get_or-append, get_or-eq_default}
+use lib.Seq.{get_or-append-add, get_or-take, get_or-drop, length-take-le}
 use Rattle.meaning.specs.Theory.{stride, state_before}
 use Rattle.meaning.specs.Four.{plain_stride, plain_masks, run_plain}
 use Rattle.meaning.proofs.Effects.{plain_run}
 use Rattle.theory.specs.Subject.{Subject, table_masks, world_of}
 use Rattle.theory.specs.Plain.{row_of_plain, masks_of_four, row_of_four, plain_rows, overwritten}
-
--- the ten places of a row, written one after the other
-pub row_stored : (m : List ℕ) (at need ban put drop : ℕ) → at + stride ≤ length m
-    → set (set (set (set (set (set (set (set (set (set m at need) (at + 1) ban) (at + 2) 0) (at + 3) 0) (at + 4) put) (at + 5) drop) (at + 6) 0) (at + 7) 0) (at + 8) 0) (at + 9) 0
-    ≡ overwritten m at (row_of_plain need ban put drop)
-row_stored m at need ban put drop room = let last : at + 9 ≡ suc (at + 8) = omega arith in rw last (simp unary_clauses (sets-eq (row_of_plain need ban put drop) m at room))
 
 -- two rows with the same masks are one action
 pub same_row : (m m' : List ℕ) (a b : ℕ) → ((i : ℕ) → i < stride → get_or m (stride * a + i) 0 ≡ get_or m' (stride * b + i) 0) → table_masks m a ≡ table_masks m' b

@@ -1,24 +1,17 @@
 -- Whether an action may be taken at a position: its need bits on and its ban bits off in the state there. What the call answers, and when an answer is right.
-use Rattle.std.specs.Prelude.{◌≡◌, Bool, true, false, List, ◌∷◌, ◌++◌, ℕ, ◌≤◌}
+use Rattle.std.specs.Prelude.{◌≡◌, Bool, List, ◌∷◌, ◌++◌, ℕ, ◌≤◌, Result}
+use Rattle.std.specs.Prelude.{Ok, Err}
 use Rattle.std.proofs.Math.Option.{Option, some}
-use Rattle.refusal.specs.Number.{number_of}
+use Rattle.refusal.specs.declared.Refusal.{Refusal}
 use Rattle.meaning.specs.Theory.{Possible, state_before}
 use Rattle.meaning.specs.Refusal.{Row, ◌when◌, Answered, no_verdict, YesOrNo}
 use Rattle.theory.specs.Subject.{Subject, counts_of, world_of}
 use Rattle.theory.specs.Rows.{world_rows, position_rows}
-use Rattle.theory.specs.declared.PossibleAnswer.{PossibleAnswer}
-use Rattle.theory.specs.declared.PossibleAnswer.TheVariants.{Refused, Yes, No}
 
--- the refusal's number, 0 for none, and the verdict, which a refusal has none of
-abbrev pub number_given : PossibleAnswer → ℕ
-number_given (Refused r) = number_of r
-number_given Yes = 0
-number_given No = 0
-
-abbrev pub verdict_given : PossibleAnswer → Option Bool
-verdict_given (Refused r) = no_verdict
-verdict_given Yes = some true
-verdict_given No = some false
+-- the verdict, which a refusal has none of
+abbrev pub verdict_given : Result Bool Refusal → Option Bool
+verdict_given (Err r) = no_verdict
+verdict_given (Ok b) = some b
 
 -- 7: an action that the theory lacks
 abbrev pub asked_rows : Subject → ℕ → ℕ → List {1} Row

@@ -5,10 +5,14 @@ use Rattle.meaning.specs.Limits.{action_limit, log_limit}
 use Rattle.meaning.specs.Theory.{Clause, Masks, Reading, now_step, now_end, World, clause_of, masks_of, no_values, stride}
 use Rattle.theory.specs.declared.Counts.{Counts}
 use Rattle.theory.specs.declared.Setting.{Setting}
+use Rattle.theory.specs.declared.Asked.{Asked}
+
+abbrev pub counted : ℕ → ℕ → ℕ → Counts
+counted fluents actions domain = record { fluents = fluents; actions = actions; domain = domain }
 
 abbrev pub setting_of : ℕ → ℕ → ℕ → ℕ → ℕ → Setting
 setting_of fluents actions domain start reading =
-    record { counts = record { fluents = fluents; actions = actions; domain = domain }; start = start; reading = reading }
+    record { counts = counted fluents actions domain; start = start; reading = reading }
 
 -- "calls without a rule .. have none": the same with no values for a variable, and no reading but the first
 abbrev pub unvalued : Setting → Setting
@@ -22,6 +26,14 @@ pub record Subject : Type 0 where
 
 abbrev pub subject_of : Setting → List ℕ → List ℕ → Subject
 subject_of setting masks log = record { setting = setting; masks = masks; log = log }
+
+-- the same of what a call is lent
+abbrev pub subject : Asked → Subject
+subject asked = subject_of asked.setting asked.masks.now asked.log.now
+
+-- .. and without values, for a call without a rule
+abbrev pub plain_subject : Asked → Subject
+plain_subject asked = subject_of (unvalued asked.setting) asked.masks.now asked.log.now
 
 abbrev pub counts_of : Subject → Counts
 counts_of s = s.setting.counts

@@ -3,13 +3,13 @@
 ghost use Rattle.std.specs.Prelude.{◌≡◌, ◌↔◌, true, ◌<◌, length};
 ghost use Rattle.meaning.specs.Limits.{log_limit};
 ghost use Rattle.meaning.specs.Refusal.{NamesLacking, BadMasks, BadLog};
-ghost use Rattle.theory.specs.Subject.{subject_of};
+ghost use Rattle.theory.specs.Subject.{subject};
 ghost use Rattle.theory.specs.Rows.{CountsOut, theory_rows, world_rows};
 ghost use Rattle.theory.specs.Check.{Settled};
 ghost use Rattle.theory.specs.Union.{Union};
 
 use crate::{
-    ACTION_LIMIT, Check, Counts, DOMAIN_LIMIT, FLUENT_LIMIT, READING_LIMIT, STRIDE, Setting,
+    ACTION_LIMIT, Asked, Counts, DOMAIN_LIMIT, FLUENT_LIMIT, READING_LIMIT, STRIDE, Setting,
 };
 use positions::PositionSet;
 use refusal::Refusal;
@@ -18,31 +18,20 @@ use refusal::Refusal;
 pub fn bad_counts(counts: Counts) -> bool
     ensures { (result ≡ true) ↔ CountsOut counts }
 {
-    let fluents = counts.fluents;
-    let actions = counts.actions;
-    let domain = counts.domain;
-    if FLUENT_LIMIT < fluents {
-        return true;
-    }
-    if actions < 1 {
-        return true;
-    }
-    if ACTION_LIMIT < actions {
-        return true;
-    }
-    DOMAIN_LIMIT < domain
+    FLUENT_LIMIT < counts.fluents
+        || counts.actions < 1
+        || ACTION_LIMIT < counts.actions
+        || DOMAIN_LIMIT < counts.domain
 }
 
 // All fluents that the masks name, in one mask.
+#[tactic(auto, using(crate::proofs::Lacking::union_none, crate::proofs::Lacking::union_more))]
 fn union(masks: &[u32]) -> u32
     ensures { Union masks.now (length masks.now) result }
 {
     let mut all = 0;
-    let mut i = 0;
-    while i < masks.len() {
-        let mask = masks[i];
-        all = all | mask;
-        i += 1;
+    for mask in masks {
+        all |= *mask;
     }
     all
 }
@@ -52,8 +41,7 @@ pub fn names_lacking(fluents: usize, mask: u32) -> bool
     requires { fluents < 64 }
     ensures { (result ≡ true) ↔ NamesLacking fluents mask }
 {
-    let wide = mask as u64;
-    let beyond = wide >> fluents;
+    let beyond = u64::from(mask) >> fluents;
     beyond != 0
 }
 
@@ -71,55 +59,30 @@ pub fn bad_masks(fluents: usize, start: u32, masks: &[u32]) -> bool
 pub fn bad_log(actions: usize, log: &[u8]) -> bool
     ensures { (result ≡ true) ↔ BadLog log_limit actions log.now }
 {
-    if PositionSet::LOG_LIMIT < log.len() {
-        return true;
-    }
-    let mut i = 0;
-    while i < log.len() {
-        let a = log[i] as usize;
-        if actions <= a {
-            return true;
-        }
-        i += 1;
-    }
-    false
+    PositionSet::LOG_LIMIT < log.len() || log.iter().any(|a| actions <= usize::from(*a))
 }
 
 // The counts, the reading and the table's length, then what the masks name.
-pub fn check_theory(s: Setting, masks: &[u32]) -> Check
+pub fn check_theory(s: Setting, masks: &[u32]) -> Result<(), Refusal>
     ensures { Settled (theory_rows s masks.now) result }
 {
     let counts = s.counts;
-    let fluents = counts.fluents;
-    let actions = counts.actions;
-    let reading = s.reading;
-    if bad_counts(counts) {
-        return Check::Refused(Refusal::BadNumber);
+    if bad_counts(counts) || READING_LIMIT < s.reading || masks.len() != STRIDE * counts.actions {
+        return Err(Refusal::BadNumber);
     }
-    if READING_LIMIT < reading {
-        return Check::Refused(Refusal::BadNumber);
+    if bad_masks(counts.fluents, s.start, masks) {
+        return Err(Refusal::LacksFluent);
     }
-    if masks.len() != STRIDE * actions {
-        return Check::Refused(Refusal::BadNumber);
-    }
-    if bad_masks(fluents, s.start, masks) {
-        return Check::Refused(Refusal::LacksFluent);
-    }
-    Check::Sound
+    Ok(())
 }
 
 // The theory, then the log.
-pub fn check_world(s: Setting, masks: &[u32], log: &[u8]) -> Check
-    ensures { Settled (world_rows (subject_of s masks.now log.now)) result }
+pub fn check_world(asked: Asked) -> Result<(), Refusal>
+    ensures { Settled (world_rows (subject asked.entry)) result }
 {
-    match check_theory(s, masks) {
-        Check::Refused(r) => Check::Refused(r),
-        Check::Sound => {
-            let counts = s.counts;
-            if bad_log(counts.actions, log) {
-                return Check::Refused(Refusal::BadLog);
-            }
-            Check::Sound
-        }
+    check_theory(asked.setting, asked.masks)?;
+    if bad_log(asked.setting.counts.actions, asked.log) {
+        return Err(Refusal::BadLog);
     }
+    Ok(())
 }

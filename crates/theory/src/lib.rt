@@ -2,9 +2,10 @@
 // States, actions and logs: whether an action is possible, what it does, the state at a position, and which refusal a theory or a log has. Knows no
 // rule and no sheet.
 ghost use Rattle.std.specs.Prelude.{◌≡◌};
-ghost use Rattle.theory.specs.Subject.{subject_of, unvalued as withoutValues};
-ghost use Rattle.theory.specs.Answer.{number_given, state_given, StateAnswered};
-ghost use Rattle.theory.specs.Possible;
+ghost use Rattle.refusal.specs.Given.{number_given, value_given};
+ghost use Rattle.meaning.specs.Refusal.{no_state};
+ghost use Rattle.theory.specs.Subject.{counted, plain_subject, setting_of, unvalued as withoutValues};
+ghost use Rattle.theory.specs.Answer.{StateAnswered};
 ghost use Rattle.theory.specs.Possible.{verdict_given, PossibleAnswered};
 
 pub mod step; // step.rt: one action in one state
@@ -36,7 +37,19 @@ pub struct Counts {
     pub domain: usize,
 }
 
-// What a call is asked of, but for its mask table and its log: plain numbers, by value.
+impl Counts {
+    pub fn of(fluents: usize, actions: usize, domain: usize) -> Counts
+        ensures { result ≡ counted fluents actions domain }
+    {
+        Counts {
+            fluents,
+            actions,
+            domain,
+        }
+    }
+}
+
+// The numbers that a call is asked of. The reading is one of them and no enum: a call may give any number, and all but two are refused.
 #[derive(Clone, Copy)]
 pub struct Setting {
     pub counts: Counts,
@@ -44,88 +57,66 @@ pub struct Setting {
     pub reading: usize,
 }
 
-// What a check finds: the refusal that comes first, or none.
-#[derive(Clone, Copy)]
-pub enum Check {
-    Sound,
-    Refused(Refusal),
+impl Setting {
+    pub fn of(fluents: usize, actions: usize, domain: usize, start: u32, reading: usize) -> Setting
+        ensures { result ≡ setting_of fluents actions domain start reading }
+    {
+        let counts = Counts::of(fluents, actions, domain);
+        Setting {
+            counts,
+            start,
+            reading,
+        }
+    }
 }
 
-// What the call `state` answers.
+// What a call is asked of: these numbers, with the mask table and the log.
 #[derive(Clone, Copy)]
-pub enum StateAnswer {
-    Refused(Refusal),
-    State(u32),
-}
-
-// What the call `possible` answers.
-#[derive(Clone, Copy)]
-pub enum PossibleAnswer {
-    Refused(Refusal),
-    Yes,
-    No,
+pub struct Asked<'a> {
+    pub setting: Setting,
+    pub masks: &'a [u32],
+    pub log: &'a [u8],
 }
 
 // A call without a rule has no variables and no tests, and looks neither at the domain nor at the reading.
 fn unvalued(s: Setting) -> Setting
     ensures { result ≡ withoutValues s }
 {
-    let given = s.counts;
     let counts = Counts {
-        fluents: given.fluents,
-        actions: given.actions,
         domain: 0,
+        ..s.counts
     };
     Setting {
         counts,
-        start: s.start,
         reading: 0,
+        ..s
     }
 }
 
 // The state at a position of the log.
-pub fn state(s: Setting, masks: &[u32], log: &[u8], position: usize) -> StateAnswer
-    ensures { StateAnswered (subject_of (withoutValues s) masks.now log.now) position (number_given result) (state_given result) }
+pub fn state(asked: Asked, position: usize) -> Result<u32, Refusal>
+    ensures { StateAnswered (plain_subject asked.entry) position (number_given result) (value_given no_state result) }
 {
-    let plain = unvalued(s);
-    match faults::check_world(plain, masks, log) {
-        Check::Refused(r) => StateAnswer::Refused(r),
-        Check::Sound => {
-            if log.len() < position {
-                return StateAnswer::Refused(Refusal::BadPosition);
-            }
-            StateAnswer::State(log::state_at(s, masks, log, position))
-        }
+    let setting = unvalued(asked.setting);
+    faults::check_world(Asked { setting, ..asked })?;
+    if asked.log.len() < position {
+        return Err(Refusal::BadPosition);
     }
+    Ok(log::state_at(asked, position))
 }
 
 // Whether an action may be taken at a position of the log.
-pub fn possible(
-    s: Setting,
-    masks: &[u32],
-    log: &[u8],
-    action: usize,
-    position: usize,
-) -> PossibleAnswer
-    ensures { PossibleAnswered (subject_of (withoutValues s) masks.now log.now) action position (Possible.number_given result) (verdict_given result) }
+pub fn possible(asked: Asked, action: usize, position: usize) -> Result<bool, Refusal>
+    ensures { PossibleAnswered (plain_subject asked.entry) action position (number_given result) (verdict_given result) }
 {
-    let plain = unvalued(s);
-    match faults::check_world(plain, masks, log) {
-        Check::Refused(r) => PossibleAnswer::Refused(r),
-        Check::Sound => {
-            let counts = s.counts;
-            if counts.actions <= action {
-                return PossibleAnswer::Refused(Refusal::LacksName);
-            }
-            let end = log.len();
-            if end < position {
-                return PossibleAnswer::Refused(Refusal::BadPosition);
-            }
-            let state = log::state_at(s, masks, log, position);
-            if step::able(masks, action, state) {
-                return PossibleAnswer::Yes;
-            }
-            PossibleAnswer::No
-        }
+    let setting = unvalued(asked.setting);
+    faults::check_world(Asked { setting, ..asked })?;
+    if asked.setting.counts.actions <= action {
+        return Err(Refusal::LacksName);
     }
+    if asked.log.len() < position {
+        return Err(Refusal::BadPosition);
+    }
+    let state = log::state_at(asked, position);
+    Ok(step::able(asked.masks, action, state))
 }

@@ -1,21 +1,18 @@
 // The state after the first steps of a log.
 ghost use Rattle.std.specs.Prelude.{◌≡◌, ◌≤◌, length};
 ghost use Rattle.meaning.specs.Theory.{state_before};
-ghost use Rattle.theory.specs.Subject.{Readable, subject_of, world_of};
+ghost use Rattle.theory.specs.Subject.{Readable, subject, world_of};
 
-use crate::{Setting, step};
+use crate::{Asked, step};
 
 // Each step applies its effects, possible or not.
-pub fn state_at(s: Setting, masks: &[u32], log: &[u8], p: usize) -> u32
-    requires { (p ≤ length log.now) × Readable masks.now log.now }
-    ensures { result ≡ state_before (world_of (subject_of s masks.now log.now)) p }
+pub fn state_at(asked: Asked, p: usize) -> u32
+    requires { (p ≤ length asked.log.now) × Readable asked.masks.now asked.log.now }
+    ensures { result ≡ state_before (world_of (subject asked.entry)) p }
 {
-    let mut state = s.start;
-    let mut i = 0;
-    while i < p {
-        let a = log[i] as usize;
-        state = step::act(masks, a, state);
-        i += 1;
+    let mut state = asked.setting.start;
+    for a in &asked.log[..p] {
+        state = step::act(asked.masks, usize::from(*a), state);
     }
     state
 }

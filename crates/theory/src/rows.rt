@@ -14,14 +14,5 @@ pub fn plain_row(masks: &mut [u32], a: usize, need: u32, ban: u32, put: u32, dro
     ensures { masks.new ≡ overwritten masks.old (stride * a) (row_of_plain need ban put drop) }
 {
     let at = STRIDE * a;
-    masks[at] = need;
-    masks[at + 1] = ban;
-    masks[at + 2] = 0;
-    masks[at + 3] = 0;
-    masks[at + 4] = put;
-    masks[at + 5] = drop;
-    masks[at + 6] = 0;
-    masks[at + 7] = 0;
-    masks[at + 8] = 0;
-    masks[at + 9] = 0;
+    masks[at..at + STRIDE].copy_from_slice(&[need, ban, 0, 0, put, drop, 0, 0, 0, 0]);
 }

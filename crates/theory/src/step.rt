@@ -10,9 +10,7 @@ use crate::STRIDE;
 fn met(ons: u32, offs: u32, state: u32) -> bool
     ensures { (result ≡ true) ↔ Met ons offs state }
 {
-    let shown = ons & state;
-    let barred = offs & state;
-    shown == ons && barred == 0
+    ons & state == ons && offs & state == 0
 }
 
 // Action a of the table is possible in the state.
@@ -43,9 +41,10 @@ fn clause(masks: &[u32], at: usize, state: u32) -> Effect
     let put = masks[at + 2];
     let drop = masks[at + 3];
     if met(when, unless, state) {
-        return Effect { put, drop };
+        Effect { put, drop }
+    } else {
+        Effect { put: 0, drop: 0 }
     }
-    Effect { put: 0, drop: 0 }
 }
 
 // The state after action a of the table, possible or not: what an acting clause puts is on, and of the rest what was on and no acting clause drops.
@@ -54,16 +53,10 @@ pub fn act(masks: &[u32], a: usize, state: u32) -> u32
     ensures { result ≡ after (table_masks masks.now a) state }
 {
     let row = STRIDE * a;
-    let first = row + 2;
-    let second = row + 6;
-    let one = clause(masks, first, state);
-    let put = one.put;
-    let drop = one.drop;
-    let two = clause(masks, second, state);
-    let put2 = two.put;
-    let drop2 = two.drop;
-    let puts = put | put2;
-    let drops = drop | drop2;
+    let one = clause(masks, row + 2, state);
+    let two = clause(masks, row + 6, state);
+    let puts = one.put | two.put;
+    let drops = one.drop | two.drop;
     let kept = state & !drops;
     puts | kept
 }

@@ -5,8 +5,7 @@ use Rattle.answer.proofs.answer.Goals as goal
 
 pub write-requires : goal.write-requires
 write-requires c =
-    let o = c.decide-o.ensures in (record { low = writable _ c.decide-o.result.said c.decide-o.result.ending o.is; few = o.few; within = o.within }, omega (arith, c.write-arg-1.given))
+    let o = c.decide-o.ensures in (record { low = writable _ c.decide-o.result o.is; ends = o.ends }, omega arith)
 
 pub returns : goal.returns
-returns c =
-    written _ c.decide-o.result.said c.decide-o.result.ending c.decide-o.ensures.is c.decide-o.ensures.few (omega (arith, c.write-arg-1.given)) c.write.ensures
+returns c = written _ c.decide-o.result c.decide-o.ensures (omega arith) c.write.ensures

@@ -1,42 +1,10 @@
--- `ask::verdict` meets its contract: the refusal stands, or the test is judged.
-use mathlib.Core.Path.{refl, subst}
-use mathlib.Core.Logic.{inl, inr}
-use mathlib.Core.Bool.{Bool}
-use mathlib.Core.List.{List}
-use mathlib.Core.Option.{some}
-use Rattle.meaning.specs.Rule.{test_kind}
-use Rattle.meaning.specs.Refusal.{Row, Accepted}
-use Rattle.theory.specs.Subject.{Subject, subject_of}
-use Rattle.theory.specs.Check.{Settled}
-use Rattle.ask.specs.Rows.{ask_rows}
-use Rattle.ask.specs.Verdict.{TestJudged}
+-- `ask::verdict` meets its contract: the refusal stands; the test is judged where there is none.
+use mathlib.Core.Path.{refl}
+use mathlib.Core.Logic.{inl}
+use Rattle.std.proofs.lemmas.Result.{err_from_is_err_and}
 use Rattle.ask.proofs.verdict.Goals as goal
 
-pub judged-requires : goal.judged-requires
-judged-requires c =
-    let subject : Subject = subject_of c.args.s c.args.masks.now c.args.log.now in
-    let rows : List {1} Row = ask_rows test_kind subject c.args.test.now c.args.then c.args.now in
-    let sound : Accepted rows = subst (Settled rows) c.in-Sound.is c.check.ensures in
-    sound
-
-pub returns-then-judged : goal.returns-then-judged
-returns-then-judged c =
-    let subject : Subject = subject_of c.args.s c.args.masks.now c.args.log.now in
-    let rows : List {1} Row = ask_rows test_kind subject c.args.test.now c.args.then c.args.now in
-    let sound : Accepted rows = subst (Settled rows) c.in-Sound.is c.check.ensures in
-    let Judged : Bool → Type 0 = λ told. TestJudged subject c.args.test.now c.args.then c.args.now (some told) in
-    inr (record { none = refl; accepted = sound; right = subst Judged c.if-judged.true c.judged.ensures })
-
-pub returns-in-Refused : goal.returns-in-Refused
-returns-in-Refused c =
-    let subject : Subject = subject_of c.args.s c.args.masks.now c.args.log.now in
-    let rows : List {1} Row = ask_rows test_kind subject c.args.test.now c.args.then c.args.now in
-    inl (record { refused = subst (Settled rows) c.in-Refused.is c.check.ensures; blank = refl })
-
-pub returns-else-judged : goal.returns-else-judged
-returns-else-judged c =
-    let subject : Subject = subject_of c.args.s c.args.masks.now c.args.log.now in
-    let rows : List {1} Row = ask_rows test_kind subject c.args.test.now c.args.then c.args.now in
-    let sound : Accepted rows = subst (Settled rows) c.in-Sound.is c.check.ensures in
-    let Judged : Bool → Type 0 = λ told. TestJudged subject c.args.test.now c.args.then c.args.now (some told) in
-    inr (record { none = refl; accepted = sound; right = subst Judged c.if-judged.false c.judged.ensures })
+pub returns-in_err-check : goal.returns-in_err-check
+returns-in_err-check c =
+    let p = err_from_is_err_and c.from_residual.result c.from_residual.ensures.1 in
+    rw (p.1, p.2) (inl (record { refused = c.in_err-check.ensures; blank = refl }))

@@ -1,79 +1,45 @@
 -- `finish::seek` meets its contract: the log goes to the trail, and what is found behind it to the output.
-use mathlib.Core.Path.{◌≡◌, subst, ◌∙◌}
-use Prim.Native.Nat.{◌+◌, ◌-◌}
+use Rattle.std.specs.Prelude.{ℕ, Option, Result, ok_or}
+use Rattle.std.specs.Prelude.{Some, None, Err}
+use Rattle.std.proofs.lemmas.Result.{err_from_is_err_and}
+use mathlib.Core.Path.{◌≡◌, refl, ap, ◌∙◌}
 use native.Mathlib.Omega.{arith}
-use lib.ListN.{length, take, drop, length-take, length-drop}
+use lib.ListN.{length, length-append, length-drop}
+use lib.Seq.{take-append_seam}
+use Rattle.refusal.specs.declared.Refusal.{Refusal}
 use Rattle.meaning.specs.Limits.{places}
 use Rattle.grammar.proofs.Widths.{ends_told}
-use Rattle.finish.specs.declared.search.Found.{Found}
-use Rattle.finish.specs.declared.search.Found.TheVariants.{At}
-use Rattle.finish.specs.Found.{FinishTold}
-use Rattle.theory.specs.Subject.{Subject, subject_of}
+use Rattle.theory.specs.Subject.{subject}
 use Rattle.finish.specs.Sound.{Wanted}
 use Rattle.finish.proofs.Checking.{wanted}
-use Rattle.finish.proofs.Seeking.{copied, ready_first, nothing_sought, written_sought}
-use borrow.Author.Rules.{rules}
+use Rattle.finish.proofs.Seeking.{ready_first, nothing_sought, written_sought}
 use Rattle.finish.proofs.seek.Goals as goal
 
-pub copy-n-requires : goal.copy-n-requires
-copy-n-requires c =
-    let subject : Subject = subject_of c.args.s c.args.masks.now c.args.log.now in
-    let want : Wanted c.args.s.counts.actions c.args.masks.now c.args.log.now c.args.job.now c.args.more (length c.args.out.now) = wanted subject c.args.job.now c.args.more (length c.args.out.now) c.requires in
-    let short = want.logged.short in
-    search rules
+-- what `ok_or` refuses with
+refused : (found : Option ℕ) (e why : Refusal) → found ≡ None → ◌≡◌ {A = Result ℕ Refusal} (Err e) (ok_or found why) → e ≡ why
+refused None e why none told = cc
+refused (Some k) e why none told = cc
 
 pub first-requires : goal.first-requires
 first-requires c =
-    let subject : Subject = subject_of c.args.s c.args.masks.now c.args.log.now in
-    let want : Wanted c.args.s.counts.actions c.args.masks.now c.args.log.now c.args.job.now c.args.more (length c.args.out.now) = wanted subject c.args.job.now c.args.more (length c.args.out.now) c.requires in
-    let front : take c.copy-n.result c.copy-n.new.to ≡ c.args.log.now = copied c.args.log.now _ c.copy-n.new.to c.copy-n.result c.copy-n.ensures.many c.copy-n.ensures.bytes in
     let a = c.args in
-    let w = want in (
-      ready_first a.s.counts.actions a.masks.now a.log.now a.job.now c.fill_ends.new.ends c.copy-n.new.to a.more (length a.out.now)
-          c.copy-n.result w (ends_told _ _ w.short c.fill_ends.ensures) c.copy-n.auto.to c.copy-n.ensures.many front,
-      w.short,
-      w.few,
-    )
+    let w : Wanted a.asked.setting.counts.actions a.asked.masks.now a.asked.log.now a.job.now a.more (length a.out.now) = wanted (subject a.asked) a.job.now a.more (length a.out.now) c.requires in
+    (rw c.copy_from_slice.ensures.after (ready_first _ _ a.asked.log.now _ _ _ _ _ w (ends_told _ _ w.short c.fill_ends.ensures) refl), w.short, w.few)
 
-pub overflow_add-end : goal.overflow_add-end
-overflow_add-end c =
-    let Told : Found → Type 0 = let a = c.args in FinishTold a.s a.masks.now a.job.now c.copy-n.new.to c.copy-n.result a.more c.first.new.trail in
-    let found : Told (At c.in-At.k) = subst Told c.in-At.is c.first.ensures in
-    omega (arith, found.fits.1)
-
-pub slice_bounds-copy-end-in-At : goal.slice_bounds-copy-end-in-At
-slice_bounds-copy-end-in-At c =
-    let Told : Found → Type 0 = let a = c.args in FinishTold a.s a.masks.now a.job.now c.copy-n.new.to c.copy-n.result a.more c.first.new.trail in
-    let found : Told (At c.in-At.k) = subst Told c.in-At.is c.first.ensures in
-    let long : length c.first.new.trail ≡ places = c.first.auto.trail ∙ c.copy-n.auto.to in
-    omega (arith, found.fits.1, long)
-
-pub copy-requires : goal.copy-requires
-copy-requires c =
-    let subject : Subject = subject_of c.args.s c.args.masks.now c.args.log.now in
-    let want : Wanted c.args.s.counts.actions c.args.masks.now c.args.log.now c.args.job.now c.args.more (length c.args.out.now) = wanted subject c.args.job.now c.args.more (length c.args.out.now) c.requires in
-    let Told : Found → Type 0 = let a = c.args in FinishTold a.s a.masks.now a.job.now c.copy-n.new.to c.copy-n.result a.more c.first.new.trail in
-    let found : Told (At c.in-At.k) = subst Told c.in-At.is c.first.ensures in
-    simp (length-take, length-drop) (omega (arith, found.fits.0, want.enough))
-
-pub returns-in-Nothing : goal.returns-in-Nothing
-returns-in-Nothing c =
-    let front : take c.copy-n.result c.copy-n.new.to ≡ c.args.log.now = copied c.args.log.now _ c.copy-n.new.to c.copy-n.result c.copy-n.ensures.many c.copy-n.ensures.bytes in
-    let Told : Found → Type 0 = let a = c.args in FinishTold a.s a.masks.now a.job.now c.copy-n.new.to c.copy-n.result a.more c.first.new.trail in
+pub returns-in_err-k : goal.returns-in_err-k
+returns-in_err-k c =
     let a = c.args in
-    nothing_sought a.s a.masks.now a.log.now a.job.now c.copy-n.new.to c.first.new.trail
-    c.copy-n.result a.more front a.out.now (subst Told c.in-Nothing.is c.first.ensures)
+    let p = err_from_is_err_and c.from_residual.result c.from_residual.ensures.1 in
+    let none = c.in_err-k.ensures.ok_part in
+    let why : c.in_err-k.field-0.0 ≡ Refusal.NoFinish = refused _ _ _ none c.in_err-k.ensures.value in
+    rw (p.1, p.2, why) (nothing_sought a.asked.setting a.asked.masks.now a.asked.log.now a.job.now _ c.first.new.trail (length a.asked.log.now) a.more
+    (rw c.copy_from_slice.ensures.after (take-append_seam _ _)) a.out.now (rw none at c.first.ensures))
 
-pub returns-in-At : goal.returns-in-At
-returns-in-At c =
-    let front : take c.copy-n.result c.copy-n.new.to ≡ c.args.log.now = copied c.args.log.now _ c.copy-n.new.to c.copy-n.result c.copy-n.ensures.many c.copy-n.ensures.bytes in
-    let Told : Found → Type 0 = let a = c.args in FinishTold a.s a.masks.now a.job.now c.copy-n.new.to c.copy-n.result a.more c.first.new.trail in
-    let found : Told (At c.in-At.k) = subst Told c.in-At.is c.first.ensures in
-    let long : length c.first.new.trail ≡ places = c.first.auto.trail ∙ c.copy-n.auto.to in
+pub returns : goal.returns
+returns c =
     let a = c.args in
-    let n = c.copy-n.result in
-    let k = c.in-At.k in
-    let last = c.first.new.trail in
-    let back : n + k - n ≡ k = omega arith in
-    written_sought a.s a.masks.now a.log.now a.job.now c.copy-n.new.to last n a.more front a.out.now
-    k (take (n + k - n) (drop n last)) c.copy.new.to long (rw back) c.copy.ensures.bytes found
+    let w : Wanted a.asked.setting.counts.actions a.asked.masks.now a.asked.log.now a.job.now a.more (length a.out.now) = wanted (subject a.asked) a.job.now a.more (length a.out.now) c.requires in
+    let long : length c.first.new.trail ≡ places = c.first.auto.trail ∙ simp (length-append, length-drop) (omega (arith, ap length c.copy_from_slice.ensures.after, w.logged.short)) in
+    written_sought a.asked.setting a.asked.masks.now a.asked.log.now a.job.now _ c.first.new.trail (length a.asked.log.now) a.more
+    (rw c.copy_from_slice.ensures.after (take-append_seam _ _)) a.out.now c.in_ok-k.k c.copy_from_slice-2.new.self long c.copy_from_slice-2.ensures.after
+    (rw c.in_ok-k.ensures.ok_part at c.first.ensures)

@@ -3,17 +3,10 @@ use Rattle.normal.proofs.Whole as whole
 use Rattle.normal.proofs.write_out.Goals as goal
 
 pub write_rule-count-requires : goal.write_rule-count-requires
-write_rule-count-requires c =
-    whole.marked_by c.requires c.fill_ends.ensures
-
-pub returns-then-out-count : goal.returns-then-out-count
-returns-then-out-count c =
-    whole.too_short c.write_rule-count.auto.out c.write_rule-count.ensures c.if-out-count.true
+write_rule-count-requires c = whole.marked_by c.requires c.fill_ends.ensures
 
 pub write_rule-requires : goal.write_rule-requires
-write_rule-requires c =
-    whole.marked_by c.requires c.fill_ends.ensures
+write_rule-requires c = whole.marked_by c.requires c.fill_ends.ensures
 
 pub returns : goal.returns
-returns c =
-    whole.long_enough c.write_rule-count.auto.out c.write_rule-count.ensures c.if-out-count.false c.write_rule.ensures
+returns c = whole.long_enough c.write_rule-count.auto.out c.write_rule-count.ensures c.if-out-count.false c.write_rule.ensures

@@ -1,10 +1,6 @@
 -- `standins::decisive` meets its contract. The loop's invariant: the word holds the fluents of the actions gone over.
-use Prim.Native.Nat.{◌-◌, ◌≤◌}
 use Rattle.standins.specs.Worth.{Decisive}
 use Rattle.standins.proofs.decisive.Given as goal
 
 abbrev pub invariant-loop-a : goal.invariant-loop-a
-invariant-loop-a l = (l.a ≤ l.actions) × Decisive l.masks l.a l.all
-
-abbrev pub decreases-loop-a : goal.decreases-loop-a
-decreases-loop-a l = l.actions - l.a
+invariant-loop-a l = Decisive l.masks l.a l.all

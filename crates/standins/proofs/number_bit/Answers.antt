@@ -1,24 +1,12 @@
 -- `standins::number_bit` meets its contract: two digits at a place are those of one number.
-use mathlib.Core.Path.{subst}
-use native.Mathlib.Omega.{arith}
-use Rattle.spelling.specs.declared.Digits.TheVariants.{Number}
-use Rattle.spelling.specs.Scan.{NumberAt}
 use Rattle.standins.proofs.Words.{one_bit, no_bit, no_number}
 use Rattle.standins.proofs.number_bit.Goals as goal
 
-pub returns-then-a-lt-ACTION_LIMIT : goal.returns-then-a-lt-ACTION_LIMIT
-returns-then-a-lt-ACTION_LIMIT c =
-    let found : NumberAt c.args.text.now c.args.at (Number c.in-Number.n) = let a = c.args in subst (NumberAt a.text.now a.at) c.in-Number.is c.two_digits.ensures in
-    let a = c.args in
-    one_bit a.text.now a.at _ (omega (arith, c.if-a-lt-ACTION_LIMIT.true)) found
+pub returns-in-Some : goal.returns-in-Some
+returns-in-Some c = one_bit c.args.text.now c.args.at c.in-Some.n c.if-n-lt-ACTION_LIMIT.true c.in-Some.ensures
 
-pub returns-else-a-lt-ACTION_LIMIT : goal.returns-else-a-lt-ACTION_LIMIT
-returns-else-a-lt-ACTION_LIMIT c =
-    let found : NumberAt c.args.text.now c.args.at (Number c.in-Number.n) = let a = c.args in subst (NumberAt a.text.now a.at) c.in-Number.is c.two_digits.ensures in
-    let a = c.args in
-    no_bit a.text.now a.at _ (omega (arith, c.if-a-lt-ACTION_LIMIT.false)) found
+pub returns-in_default : goal.returns-in_default
+returns-in_default c = no_bit c.args.text.now c.args.at c.in-Some.n c.if-n-lt-ACTION_LIMIT.false c.in-Some.ensures
 
-pub returns-in-Other : goal.returns-in-Other
-returns-in-Other c =
-    let a = c.args in
-    no_number a.text.now a.at (subst (NumberAt a.text.now a.at) c.in-Other.is c.two_digits.ensures)
+pub returns-in_default-2 : goal.returns-in_default-2
+returns-in_default-2 c = no_number c.args.text.now c.args.at c.in_default.ensures

@@ -8,12 +8,8 @@ use Rattle.standins.proofs.same_effects.Goals as goal
 
 pub returns : goal.returns
 returns c = λ when unless.
-    let same = ap (λ (n : ℕ). bit_and n c.args.matter) c.wide-differ.ensures in (
-      λ e.
-          effects_alike c.args.put c.args.drop c.args.put2 c.args.drop2 c.args.matter c.ranges.put.fits c.ranges.put2.fits c.ranges.matter.fits
-          (sym same ∙ eqb-true _ 0 e) when unless,
-      λ h.
-          eq-eqb _ 0
-          (same
-          ∙ alike_effects c.args.put c.args.drop c.args.put2 c.args.drop2 c.args.matter c.ranges.put.fits c.ranges.put2.fits c.ranges.matter.fits when unless h),
+    let a = c.args in
+    let same = ap (λ (n : ℕ). bit_and n a.matter) c.from.ensures in (
+      λ e. effects_alike a.put a.drop a.put2 a.drop2 a.matter c.ranges.put.fits c.ranges.put2.fits c.ranges.matter.fits (sym same ∙ eqb-true _ 0 e) when unless,
+      λ h. eq-eqb _ 0 (same ∙ alike_effects a.put a.drop a.put2 a.drop2 a.matter c.ranges.put.fits c.ranges.put2.fits c.ranges.matter.fits when unless h),
     )

@@ -1,10 +1,6 @@
 -- `standins::sifted` meets its contract. The loop's invariant: of the actions gone over, those that have a stand-in are left out, and no other is.
-use Prim.Native.Nat.{◌-◌, ◌≤◌}
 use Rattle.standins.specs.Worth.{others, Sifted}
 use Rattle.standins.proofs.sifted.Given as goal
 
 abbrev pub invariant-loop-b : goal.invariant-loop-b
-invariant-loop-b l = (l.b ≤ l.actions) × Sifted l.masks l.unnamed (others l.matter) l.b l.kept
-
-abbrev pub decreases-loop-b : goal.decreases-loop-b
-decreases-loop-b l = l.actions - l.b
+invariant-loop-b l = Sifted l.masks l.unnamed (others l.matter) l.b l.kept

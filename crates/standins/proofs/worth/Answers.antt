@@ -14,7 +14,7 @@ returns c =
     let takes = c.takes_others in
     let labels = c.named-labels in
     let fluents = c.named-fluents in
-    let tested = c.wide-tested in
+    let tested = c.from in
     let job = takes.ensures.0 c.if-not-takes_others.false in
     sifted_worth a.actions a.masks.now a.job.now labels.result fluents.result tested.result c.sifted.result job.0 job.1
     (record { acts = labels.ensures; shows = fluents.ensures; decides = rw tested.ensures c.decisive-decide.ensures }) c.sifted.ensures

@@ -1,10 +1,6 @@
 -- `desk::labels::fill` meets its contract. The loop's invariant: the rows of the prints below a are filled.
-use Prim.Native.Nat.{◌≤◌, ◌-◌}
 use Rattle.desk.proofs.Table.{Filled}
 use Rattle.desk.proofs.labels.fill.Given as goal
 
 abbrev pub invariant-loop-a : goal.invariant-loop-a
-invariant-loop-a l = (l.a ≤ l.cartons) × Filled l.masks l.a
-
-abbrev pub decreases-loop-a : goal.decreases-loop-a
-decreases-loop-a l = l.cartons - l.a
+invariant-loop-a l = Filled l.masks l.a

@@ -8,10 +8,10 @@ use Rattle.evaluator.proofs.asks.allowed.Goals as goal
 
 pub returns-then-left-lt8 : goal.returns-then-left-lt8
 unfolding on
-returns-then-left-lt8 c = rw c.wide-lengths.ensures.0
+returns-then-left-lt8 c = rw c.from-lengths.ensures
 
 pub returns-else-left-lt8 : goal.returns-else-left-lt8
-returns-else-left-lt8 c = let w = c.wide-lengths.ensures in sym (on_high 8 (omega arith) (omega arith))
+returns-else-left-lt8 c = sym (on_high 8 (omega arith) (omega arith))
 
 pub returns-else-at-follow : goal.returns-else-at-follow
 returns-else-at-follow c =

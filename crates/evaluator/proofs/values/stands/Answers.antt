@@ -1,18 +1,8 @@
 -- `evaluator::values::stands` meets its contract: place by place, from the last back.
-use mathlib.Core.Bool.{true≢false}
 use native.Mathlib.Omega.{arith}
 use Rattle.runs.specs.Values.{past}
 use Rattle.runs.proofs.Bound.{clean_passed}
 use Rattle.evaluator.proofs.values.stands.Goals as goal
-
-pub loop-i-init : goal.loop-i-init
-loop-i-init c = λ d. d
-
-pub returns-then-text-i : goal.returns-then-text-i
-returns-then-text-i c e = absurd (true≢false e)
-
-pub returns-then-next-i : goal.returns-then-next-i
-returns-then-next-i c e = absurd (true≢false e)
 
 pub loop-i-preserved : goal.loop-i-preserved
 loop-i-preserved c =

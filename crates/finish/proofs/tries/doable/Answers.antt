@@ -7,19 +7,17 @@ use Rattle.finish.proofs.tries.doable.Goals as goal
 use Rattle.finish.proofs.tries.doable.Goals.{then-able, else-able}
 
 pub loop-a-init : goal.loop-a-init
-loop-a-init c = (omega arith, doable_none _ _)
+loop-a-init c = doable_none _ _
 
 pub loop-a-preserved : goal.loop-a-preserved
 loop-a-preserved c =
     let a = c.args in
     let k = c.loop-a in
-    let able = c.able.ensures in (
-      omega arith,
-      elim c.if-able.branch [
-        | then-able w ↦ rw w.asked-is (doable_taken a.masks.now a.state k.a k.asked (omega arith) (able.0 w.if-able.true) k.invariant.1)
-        | else-able w ↦ rw w.asked-is (doable_left a.masks.now a.state k.a k.asked (λ h. off_on w.if-able.false (able.1 h)) k.invariant.1)
-      ],
-    )
+    let able = c.able.ensures in
+    elim c.if-able.branch [
+      | then-able w ↦ rw w.these-is (doable_taken a.masks.now a.state k.a k.these (omega arith) (able.0 w.if-able.true) k.invariant)
+      | else-able w ↦ rw w.these-is (doable_left a.masks.now a.state k.a k.these (λ h. off_on w.if-able.false (able.1 h)) k.invariant)
+    ]
 
 pub returns : goal.returns
-returns c = let all : c.loop-a.a ≡ c.args.actions = omega arith in rw (← all) c.loop-a.invariant.1
+returns c = let all : c.loop-a.a ≡ c.args.actions = omega arith in rw (← all) c.loop-a.invariant

@@ -7,28 +7,22 @@ use Rattle.meaning.specs.Lengths.{allows}
 use Rattle.runs.specs.Values.{unbound}
 use Rattle.runs.specs.Found.{Tabled}
 use Rattle.runs.proofs.Bound.{bears_none}
-use Rattle.theory.specs.Subject.{subject_of, world_of}
+use Rattle.theory.specs.Subject.{subject, world_of}
 use Rattle.tables.proofs.Transposed.{described_owning}
 use Rattle.finish.proofs.LeftOut.{asked_able, asked_next}
 use Rattle.finish.proofs.tries.tries.Goals as goal
 
-pub asked-asked-requires : goal.asked-asked-requires
-asked-asked-requires c = c.requires.0.stands
-
-pub doable-able-requires : goal.doable-able-requires
-doable-able-requires c = c.requires.0.logged.table
-
 pub returns : goal.returns
 returns c =
     let a = c.args in
-    let subject = subject_of a.s a.masks.now a.log.now in
-    let asked = c.asked-asked in
-    let tabled : Tabled (as_job (world_of subject)) a.rows.now (unbound a.s.counts.domain 0 a.s.reading) (length a.log.now) =
+    let subject = subject a.asked in
+    let asked = c.asked-waited in
+    let tabled : Tabled (as_job (world_of subject)) a.rows.now (unbound a.asked.setting.counts.domain 0 a.asked.setting.reading) (length a.asked.log.now) =
     record {
       described = described_owning (world_of subject) now_step c.requires.1.described;
       logged = omega arith;
       room = c.requires.0.logged.short;
-      bears = bears_none (as_job (world_of subject)) refl 0 a.s.reading refl refl;
+      bears = bears_none (as_job (world_of subject)) refl 0 a.asked.setting.reading refl refl;
     } in
     record {
       able = asked_able subject a.state c.doable-able.result asked.result c.requires.1.here c.doable-able.ensures;

@@ -6,20 +6,6 @@ use Rattle.grammar.proofs.SignTable.{among}
 use Rattle.grammar.proofs.Widths as laws
 use Rattle.grammar.proofs.ends.end_at.Goals as goal
 
-pub within-requires : goal.within-requires
-within-requires c = (c.requires.inside, c.requires.short)
-
-pub within-requires-in-SumStep : goal.within-requires-in-SumStep
-within-requires-in-SumStep c = (c.requires.inside, c.requires.short)
-
-pub bounds-ends-at : goal.bounds-ends-at
-bounds-ends-at c =
-    omega (arith, c.if-left-lt2.false, c.requires.room)
-
-pub overflow_cast-middle : goal.overflow_cast-middle
-overflow_cast-middle c =
-    omega (arith, laws.middle_inside c.args.text.now c.args.ends.now c.args.at c.requires, c.requires)
-
 pub bounds-ends-middle : goal.bounds-ends-middle
 bounds-ends-middle c =
     omega (arith, laws.middle_inside c.args.text.now c.args.ends.now c.args.at c.requires, c.requires)
@@ -44,17 +30,14 @@ returns-in-OverWalk c =
     laws.table_rule c.args.text.now c.args.ends.now c.args.at c.requires c.sign_of.result c.sign_of.ensures
     (among laws.OverOne (2 ∷ (3 ∷ (7 ∷ []))) (λ l a. refl, (λ l a. refl, (λ l a. refl, tt))) c.sign_of.result c.in-OverWalk.in-OverWalk-own.keys4)
 
-pub returns-then-left-lt2 : goal.returns-then-left-lt2
-returns-then-left-lt2 c =
-    laws.end_cut c.args.text.now c.args.at c.requires.inside c.sign_of.result c.sign_of.ensures
-    (among laws.OverLettered (11 ∷ (13 ∷ [])) (λ l a. refl, (λ l a. refl, tt)) c.sign_of.result c.in-SomeWalk.in-SomeWalk-own.keys5) (omega (arith, c.if-left-lt2.true))
-
-pub returns-else-left-lt2 : goal.returns-else-left-lt2
-returns-else-left-lt2 c =
-    laws.table_lettered c.args.text.now c.args.ends.now c.args.at c.requires c.sign_of.result c.sign_of.ensures
-    (among laws.OverLettered (11 ∷ (13 ∷ [])) (λ l a. refl, (λ l a. refl, tt)) c.sign_of.result c.in-SomeWalk.in-SomeWalk-own.keys5) (omega (arith, c.if-left-lt2.false))
+pub returns-in-SomeWalk : goal.returns-in-SomeWalk
+returns-in-SomeWalk c =
+    rw c.min.ensures
+    (laws.table_lettered c.args.text.now c.args.ends.now c.args.at c.requires c.sign_of.result c.sign_of.ensures
+    (among laws.OverLettered (11 ∷ (13 ∷ [])) (λ l a. refl, (λ l a. refl, tt)) c.sign_of.result c.in-SomeWalk.in-SomeWalk-own.keys5))
 
 pub returns-in-TwoWalks : goal.returns-in-TwoWalks
 returns-in-TwoWalks c =
-    laws.table_rules c.args.text.now c.args.ends.now c.args.at c.requires c.sign_of.result c.sign_of.ensures
-    (among laws.OverTwo (4 ∷ (8 ∷ (9 ∷ []))) (λ l a. refl, (λ l a. refl, (λ l a. refl, tt))) c.sign_of.result c.in-TwoWalks.in-TwoWalks-own.keys6)
+    rw c.from-middle.ensures
+    (laws.table_rules c.args.text.now c.args.ends.now c.args.at c.requires c.sign_of.result c.sign_of.ensures
+    (among laws.OverTwo (4 ∷ (8 ∷ (9 ∷ []))) (λ l a. refl, (λ l a. refl, (λ l a. refl, tt))) c.sign_of.result c.in-TwoWalks.in-TwoWalks-own.keys6))

@@ -1,12 +1,11 @@
 -- `sheet::act::read_masks` meets its contract. The loop has read the first masks into the row. Assumes nothing.
-use mathlib.Core.Path.{refl, sym, ap, ◌∙◌, subst}
+use mathlib.Core.Path.{refl, sym, ap, ◌∙◌}
 use native.Mathlib.Omega.{arith}
 use lib.ListN.{length, get_or}
 use Rattle.spelling.proofs.Stretch.{length_stretch}
 use Rattle.sheet_lines.specs.Masks.{row_width}
-use Rattle.sheet.specs.Acts.{MaskFound}
 use Rattle.sheet_lines.proofs.MaskRow.{masks_long}
-use Rattle.sheet.proofs.MaskReading.{text_mask, reading_none, reading_more, reading_done}
+use Rattle.sheet.proofs.MaskReading.{text_mask, reading_more, reading_done}
 use Rattle.sheet.proofs.act.read_masks.Goals as goal
 
 pub returns-then-end-start : goal.returns-then-end-start
@@ -15,34 +14,16 @@ returns-then-end-start c =
     let long = length_stretch a.sheet.now a.start a.end (omega arith) in
     (record { front = refl; back = refl }, λ m row e. c.if-end-start.true (sym long ∙ ap length e ∙ masks_long m ∙ ap row_width row.long))
 
-pub loop-j-init : goal.loop-j-init
-loop-j-init c = reading_none _ _ _ _ _
-
-pub shape_of-masks-in-Other : goal.shape_of-masks-in-Other
-shape_of-masks-in-Other c = c.loop-j.invariant.long
-
-pub returns-in-Other : goal.returns-in-Other
-returns-in-Other c =
-    let a = c.args in
-    let j = c.loop-j.j in
-    let other = subst (MaskFound a.sheet.now a.start j) c.in-Other.is c.mask_at.ensures in (
+pub returns-in-None : goal.returns-in-None
+returns-in-None c =
+    let a = c.args in (
       c.loop-j.invariant.only,
       λ m row e.
-          other (get_or m j 0) (text_mask a.sheet.now a.start a.end a.count j m c.if-end-start.false c.loop-j-test.true row e),
+          c.in-None.ensures (get_or m c.loop-j.j 0) (text_mask a.sheet.now a.start a.end a.count c.loop-j.j m c.if-end-start.false c.loop-j-test.true row e),
     )
 
-pub offset_bounds-masks-row : goal.offset_bounds-masks-row
-offset_bounds-masks-row c =
-    omega (arith, c.well_formed)
-
 pub loop-j-preserved : goal.loop-j-preserved
-loop-j-preserved c =
-    let a = c.args in
-    let read = subst (MaskFound a.sheet.now a.start c.loop-j.j) c.in-Number.is c.mask_at.ensures in
-    reading_more _ _ _ _ _ _ _ _ c.requires.4 c.loop-j.invariant c.loop-j-test.true read
-
-pub shape_of-masks : goal.shape_of-masks
-shape_of-masks c = c.loop-j.invariant.long
+loop-j-preserved c = reading_more _ _ _ _ _ _ _ _ c.requires.4 c.loop-j.invariant c.loop-j-test.true c.in-Some.ensures
 
 pub returns : goal.returns
 returns c =

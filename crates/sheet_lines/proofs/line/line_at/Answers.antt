@@ -1,16 +1,8 @@
 -- `sheet_lines::line::line_at` meets its contract. Assumes nothing.
 use mathlib.Core.Path.{refl, sym, ◌∙◌}
 use mathlib.Core.Bool.{false≢true}
-use native.Mathlib.Omega.{arith}
-use Rattle.spelling.proofs.Bytes.{opens_long}
 use Rattle.sheet_lines.proofs.Ends.{no_key, no_lf, found_line}
 use Rattle.sheet_lines.proofs.line.line_at.Goals as goal
-
-pub find_lf-end-requires : goal.find_lf-end-requires
-find_lf-end-requires c =
-    let a = c.args in
-    let long = opens_long a.sheet.now a.key.now _ a.at (c.opens_with.ensures.0 c.if-opens_with.true) in
-    omega arith
 
 pub returns-then-end-sheet : goal.returns-then-end-sheet
 returns-then-end-sheet c =

@@ -1,72 +1,36 @@
 -- `sheet_lines::line::now_below` meets its contract: the value is one word, the other, or none of both. Assumes nothing.
-use mathlib.Core.Path.{◌≡◌, refl, sym, ◌∙◌, subst}
-use mathlib.Core.Bool.{false≢true}
+use mathlib.Core.Path.{◌≡◌, ◌∙◌}
+use mathlib.Core.Bool.{Bool, true}
 use mathlib.Core.List.{List}
 use Prim.Native.Nat.{ℕ, ◌+◌, ◌≤◌}
 use native.Mathlib.Omega.{arith}
+use Rattle.std.specs.Prelude.{Ok}
+use Rattle.std.specs.Str.{bytes_eq}
+use Rattle.std.proofs.lemmas.Bool.Decides.{Decides-eqb}
+use Rattle.std.proofs.lemmas.Slice.Eq.{slice_eq-Decides}
 use Rattle.laws.specs.Text.{bytes}
 use Rattle.meaning.specs.Limits.{reading_limit}
 use Rattle.spelling.specs.Scan.{stretch}
 use Rattle.sheet_lines.specs.Forms.{now_form, reading_text}
-use Rattle.sheet_lines.specs.Found.{CursorAt, LineFound, ReadBelow}
+use Rattle.sheet_lines.specs.Found.{CursorAt, Below, ReadBelow}
 use Rattle.sheet_lines.specs.declared.Cursor.{Cursor}
-use Rattle.sheet_lines.specs.declared.LineAnswer.TheVariants.{Next}
 use Rattle.sheet_lines.proofs.Forms.{now_clear}
 use Rattle.sheet_lines.proofs.Below.{read_below}
-use Rattle.sheet_lines.proofs.Say.{noted, passed_on, unsaid, accepted}
-use Rattle.sheet_lines.proofs.Words.{no_reading}
+use Rattle.sheet_lines.proofs.Say.{noted, accepted}
 use Rattle.sheet_lines.proofs.line.now_below.Goals as goal
 
-pub is_word-requires : goal.is_word-requires
-is_word-requires c =
-    let it : Cursor = c.in-Next.c in
-    let stood : let a = c.args in CursorAt (bytes "now=") a.sheet.now (a.above.end + 1) (a.above.line + 1) it = let a = c.args in subst (LineFound (bytes "now=") a.sheet.now (a.above.end + 1) (a.above.line + 1)) c.in-Next.is c.line_at.ensures.0 in
-    let s = stood in (s.onward, omega (arith, s.within))
+same : {xs ys : List ℕ} {r : Bool} → r ≡ bytes_eq xs ys → r ≡ true → xs ≡ ys
+same {xs} {ys} {r} e equal = (slice_eq-Decides Decides-eqb xs ys r e).0 equal
 
-pub returns-then-is_word : goal.returns-then-is_word
-returns-then-is_word c =
-    let it : Cursor = c.in-Next.c in
-    let value : List ℕ = stretch c.args.sheet.now it.start it.end in
-    let stood : let a = c.args in CursorAt (bytes "now=") a.sheet.now (a.above.end + 1) (a.above.line + 1) it = let a = c.args in subst (LineFound (bytes "now=") a.sheet.now (a.above.end + 1) (a.above.line + 1)) c.in-Next.is c.line_at.ensures.0 in
-    let says : (reading : ℕ) → reading ≤ reading_limit → value ≡ reading_text reading → let a = c.args in ReadBelow now_form a.sheet.now a.above (λ c. c.number) (Next (record { line = a.above.line + 1; start = it.start; end = it.end; number = reading })) = λ reading. λ known. λ e.
-    let a = c.args in
-    let g : Cursor = record { line = a.above.line + 1; start = it.start; end = it.end; number = reading } in
-    read_below now_form a.sheet.now a.above (λ c. c.number) c.requires (Next g)
-    (accepted now_form a.sheet.now (a.above.end + 1) (a.above.line + 1) now_clear {c = g} (noted reading stood) reading known e tt) in
-    says 0 (omega arith) (c.is_word.ensures.0 c.if-is_word.true)
+-- the line says this reading
+said : (sheet : List ℕ) (above c : Cursor) (reading : ℕ) → Below sheet above → CursorAt (bytes "now=") sheet (above.end + 1) (above.line + 1) c → reading ≤ reading_limit
+    → stretch sheet c.start c.end ≡ reading_text reading → ReadBelow now_form sheet above (λ c. c.number) (Ok (record c { number = reading }))
+said sheet above c reading below stood known e =
+    read_below now_form sheet above (λ c. c.number) below (Ok (record c { number = reading }))
+    (accepted now_form sheet (above.end + 1) (above.line + 1) now_clear (noted reading stood) reading known e tt)
 
-pub is_word-requires-in-Next : goal.is_word-requires-in-Next
-is_word-requires-in-Next c =
-    let it : Cursor = c.in-Next.c in
-    let stood : let a = c.args in CursorAt (bytes "now=") a.sheet.now (a.above.end + 1) (a.above.line + 1) it = let a = c.args in subst (LineFound (bytes "now=") a.sheet.now (a.above.end + 1) (a.above.line + 1)) c.in-Next.is c.line_at.ensures.0 in
-    let s = stood in (s.onward, omega (arith, s.within))
+pub returns-then-eq : goal.returns-then-eq
+returns-then-eq c = said c.args.sheet.now c.args.above c.in_ok-c.c 0 c.requires c.in_ok-c.ensures.0 (omega arith) (same c.eq.ensures c.if-eq.true ∙ c.as_slice.ensures)
 
-pub returns-then-is_word-2 : goal.returns-then-is_word-2
-returns-then-is_word-2 c =
-    let it : Cursor = c.in-Next.c in
-    let value : List ℕ = stretch c.args.sheet.now it.start it.end in
-    let stood : let a = c.args in CursorAt (bytes "now=") a.sheet.now (a.above.end + 1) (a.above.line + 1) it = let a = c.args in subst (LineFound (bytes "now=") a.sheet.now (a.above.end + 1) (a.above.line + 1)) c.in-Next.is c.line_at.ensures.0 in
-    let says : (reading : ℕ) → reading ≤ reading_limit → value ≡ reading_text reading → let a = c.args in ReadBelow now_form a.sheet.now a.above (λ c. c.number) (Next (record { line = a.above.line + 1; start = it.start; end = it.end; number = reading })) = λ reading. λ known. λ e.
-    let a = c.args in
-    let g : Cursor = record { line = a.above.line + 1; start = it.start; end = it.end; number = reading } in
-    read_below now_form a.sheet.now a.above (λ c. c.number) c.requires (Next g)
-    (accepted now_form a.sheet.now (a.above.end + 1) (a.above.line + 1) now_clear {c = g} (noted reading stood) reading known e tt) in
-    says 1 (omega arith) (c.is_word-in-Next.ensures.0 c.if-is_word-2.true)
-
-pub returns-in-Faulty : goal.returns-in-Faulty
-returns-in-Faulty c =
-    let a = c.args in
-    passed_on now_form a.sheet.now (a.above.end + 1) (a.above.line + 1) (λ c. c.number) c.in-Faulty.f
-    (subst (LineFound (bytes "now=") a.sheet.now (a.above.end + 1) (a.above.line + 1)) c.in-Faulty.is c.line_at.ensures.0)
-
-pub returns-else-is_word-2 : goal.returns-else-is_word-2
-returns-else-is_word-2 c =
-    let it : Cursor = c.in-Next.c in
-    let value : List ℕ = stretch c.args.sheet.now it.start it.end in
-    let stood : let a = c.args in CursorAt (bytes "now=") a.sheet.now (a.above.end + 1) (a.above.line + 1) it = let a = c.args in subst (LineFound (bytes "now=") a.sheet.now (a.above.end + 1) (a.above.line + 1)) c.in-Next.is c.line_at.ensures.0 in
-    let a = c.args in (
-      unsaid now_form a.sheet.now (a.above.end + 1) (a.above.line + 1) stood
-          (no_reading value (λ e. false≢true (sym c.if-is_word.false ∙ c.is_word.ensures.1 e))
-          (λ e. false≢true (sym c.if-is_word-2.false ∙ c.is_word-in-Next.ensures.1 e))),
-      refl,
-    )
+pub returns-then-eq-2 : goal.returns-then-eq-2
+returns-then-eq-2 c = said c.args.sheet.now c.args.above c.in_ok-c.c 1 c.requires c.in_ok-c.ensures.0 (omega arith) (same c.eq-else-eq.ensures c.if-eq-2.true ∙ c.as_slice-else-eq.ensures)

@@ -4,6 +4,3 @@ use Rattle.sheet_lines.proofs.versions.widen.Given as goal
 
 abbrev pub invariant-loop-a : goal.invariant-loop-a
 invariant-loop-a l = Widened l.initial.masks l.masks l.actions l.a
-
-abbrev pub decreases-loop-a : goal.decreases-loop-a
-decreases-loop-a l = l.a

@@ -1,27 +1,22 @@
--- `slots::slots::forget` meets its contract: place by place, and where the table ends nothing is left to forget.
-use mathlib.Core.Path.{refl, ◌∙◌}
+-- `slots::slots::forget` meets its contract: filled with 0 as far as the table goes, and where it ends nothing is left to forget.
+use mathlib.Core.Path.{◌≡◌}
+use mathlib.Core.Logic.{⊎_elim}
+use mathlib.Core.List.{List}
+use Prim.Native.Nat.{ℕ, ◌-◌, ◌<◌, min}
 use native.Mathlib.Omega.{arith}
-use lib.ListN.{length-set}
-use Rattle.runs.proofs.Keeping.{forgotten_none, forgotten_one, forgotten_end, forgotten_to}
+use lib.ListN.{length, take, drop, replicate}
+use borrow.Rule.Slice.PartMut.{put_mid}
+use Rattle.std.proofs.lemmas.List.{places}
+use Rattle.runs.specs.Slots.{Forgotten}
 use Rattle.slots.proofs.slots.forget.Goals as goal
 
-pub loop-j-init : goal.loop-j-init
-loop-j-init c =
-    let a = c.args in
-    (omega arith, c.requires, refl, forgotten_none a.slots.now a.from)
+filled : (before part : List ℕ) (from to end : ℕ) → end ≡ min to (length before) → from < end → part ≡ replicate (length (take (end - from) (drop from before))) 0
+    → Forgotten before from to (put_mid from (end - from) before part)
+filled before part from to end least some zeros = record {
+  none = λ j low high. grind (arith, places);
+  outside = record { same = λ j h. ⊎_elim (λ l. grind (arith, places)) (λ l. grind (arith, places)) h };
+}
 
-pub returns-then-slots-j-clause-forgotten : goal.returns-then-slots-j-clause-forgotten
-returns-then-slots-j-clause-forgotten c =
-    let k = c.loop-j in
-    forgotten_end c.args.slots.now c.args.from c.if-slots-j.true (omega arith) k.invariant.3
-
-pub loop-j-preserved : goal.loop-j-preserved
-loop-j-preserved c =
-    let k = c.loop-j in
-    let a = c.args in
-    (omega arith, omega arith, length-set k.slots k.j 0 ∙ k.invariant.2, forgotten_one a.slots.now a.from k.invariant.0 (omega arith) k.invariant.3)
-
-pub returns-clause-forgotten : goal.returns-clause-forgotten
-returns-clause-forgotten c =
-    let k = c.loop-j in
-    forgotten_to c.args.slots.now c.args.from (omega arith) k.invariant.3
+pub returns-then-from-end-clause-forgotten : goal.returns-then-from-end-clause-forgotten
+returns-then-from-end-clause-forgotten c =
+    filled c.args.slots.now c.fill.new.self c.args.from c.args.to c.min-end.result c.min-end.ensures c.if-from-end.true (c.fill.ensures.after (λ y e. e))

@@ -4,9 +4,6 @@ use Rattle.positions.proofs.Held.{nothing_held}
 use Rattle.runs.proofs.Keeping.{empty_slot, no_slot}
 use Rattle.slots.proofs.slots.kept.Goals as goal
 
-pub returns-then-i-slots : goal.returns-then-i-slots
-returns-then-i-slots c = λ q. sym (c.of_word.ensures.bits q)
-
 pub returns-else-i-slots : goal.returns-else-i-slots
 returns-else-i-slots c = λ q.
     let a = c.args in

@@ -11,6 +11,3 @@ returns-then-end-start c n e =
     let a = c.args in
     let long = length_stretch a.text.now a.start a.end (omega arith) in
     c.if-end-start.true (sym long ∙ ap length e ∙ length_numeral a.base a.width n)
-
-pub returns : goal.returns
-returns c = rw c.if-end-start.false c.number_at.ensures

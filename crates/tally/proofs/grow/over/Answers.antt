@@ -1,60 +1,34 @@
--- `tally::grow::over` meets its contract. The loop's invariant: the record is that of the log's first i steps.
+-- `tally::grow::over` meets its contract. The loop's invariant: the record is that of the steps passed.
 use mathlib.Core.Path.{◌≡◌}
 use Prim.Native.Nat.{◌≤◌, ◌<◌}
 use native.Mathlib.Omega.{arith}
 use lib.ListN.{length, take}
 use lib.Seq.{length-take-le}
 use Rattle.meaning.specs.Limits.{log_limit}
-use Rattle.meaning.specs.Theory.{World}
 use Rattle.tables.proofs.Transposed.{uncounted}
 use Rattle.tally.proofs.Growth.{tally_begins, tally_next, tally_whole, recount}
 use Rattle.tally.proofs.grow.over.Goals as goal
 
-pub loop-i-init : goal.loop-i-init
-loop-i-init c =
-    let a = c.args in
-    (omega arith, tally_begins (uncounted a.s.start a.masks.now a.log.now))
-
-pub bounds-log-i : goal.bounds-log-i
-bounds-log-i c =
-    let inside : c.loop-i.i < length c.args.log.now = c.loop-i-test.true in
-    inside
-
-pub overflow_cast-a : goal.overflow_cast-a
-overflow_cast-a c = omega (arith, c.type_inv.log c.loop-i.i)
+pub loop-a-init : goal.loop-a-init
+loop-a-init c = let a = c.args in tally_begins (uncounted a.asked.setting.start a.asked.masks.now a.asked.log.now)
 
 pub grown-t-requires : goal.grown-t-requires
 grown-t-requires c =
-    let inside : c.loop-i.i < length c.args.log.now = c.loop-i-test.true in
-    let short : length c.args.log.now ≤ log_limit = c.requires.short in
-    let loop = c.loop-i in
-    let pre = c.requires in
-    let done : length (take loop.i c.args.log.now) ≡ loop.i = length-take-le _ _ (omega (arith, inside)) in
-    (pre.covered loop.i inside, pre.known loop.i inside, omega (arith, loop.invariant.1.steps, done, inside, short))
+    let i = c.loop-a.a-index in
+    let inside : i < length c.args.asked.log.now = c.loop-a-test.true in
+    let short : length c.args.asked.log.now ≤ log_limit = c.requires.short in
+    let done : length (take i c.args.asked.log.now) ≡ i = length-take-le _ _ (omega arith) in
+    rw c.from.ensures (c.requires.covered i inside, c.requires.known i inside, omega (arith, c.loop-a.invariant.steps, done))
 
-pub overflow_add-i : goal.overflow_add-i
-overflow_add-i c =
-    let inside : c.loop-i.i < length c.args.log.now = c.loop-i-test.true in
-    let short : length c.args.log.now ≤ log_limit = c.requires.short in
-    omega (arith, inside, short)
-
-pub loop-i-smaller : goal.loop-i-smaller
-loop-i-smaller c =
-    let inside : c.loop-i.i < length c.args.log.now = c.loop-i-test.true in
-    omega (arith, inside)
-
-pub loop-i-preserved : goal.loop-i-preserved
-loop-i-preserved c =
-    let asked : World = uncounted c.args.s.start c.args.masks.now c.args.log.now in
-    let inside : c.loop-i.i < length c.args.log.now = c.loop-i-test.true in
-    let short : length c.args.log.now ≤ log_limit = c.requires.short in
-    let loop = c.loop-i in
-    (omega (arith, inside), tally_next asked loop.i inside short (c.requires.known loop.i inside) loop.invariant.1 c.grown-t.ensures)
+pub loop-a-preserved : goal.loop-a-preserved
+loop-a-preserved c =
+    let i = c.loop-a.a-index in
+    let inside : i < length c.args.asked.log.now = c.loop-a-test.true in
+    let step = rw c.from.ensures at c.grown-t.ensures in
+    tally_next (uncounted c.args.asked.setting.start c.args.asked.masks.now c.args.asked.log.now) i inside c.requires.short (c.requires.known i inside) c.loop-a.invariant step
 
 pub returns : goal.returns
 returns c =
-    let asked : World = uncounted c.args.s.start c.args.masks.now c.args.log.now in
-    let loop = c.loop-i in
     let a = c.args in
-    let ends : loop.i ≡ length a.log.now = omega (arith, c.loop-i-test.false, loop.invariant.0) in
-    recount a.s a.masks.now a.log.now (tally_whole asked loop.i ends loop.invariant.1)
+    let ends : c.loop-a.a-index ≡ length a.asked.log.now = omega arith in
+    recount a.asked.setting a.asked.masks.now a.asked.log.now (tally_whole (uncounted a.asked.setting.start a.asked.masks.now a.asked.log.now) c.loop-a.a-index ends c.loop-a.invariant)

@@ -13,8 +13,8 @@ returns-then-met c =
     effected k c.args.state
     ((acts_iff k c.args.state (known c.args.at).fits (known (c.args.at + 1)).fits).1 (c.met.ensures.0 c.if-met.true))
 
-pub returns : goal.returns
-returns c =
+pub returns-else-met : goal.returns-else-met
+returns-else-met c =
     let known = c.type_inv.masks in
     let k = clause_at c.args.masks.now c.args.at in
     unaffected k c.args.state
