@@ -1,5 +1,5 @@
 // The lines of a table.
-ghost use Rattle.std.specs.Prelude.{◌≡◌, ◌+◌, ◌<◌, length};
+ghost use Rattle.std.specs.Prelude.{◌≡◌, ◌+◌, ◌≤◌, ◌<◌, length};
 
 // The first line, without its LF, and what stands behind it.
 pub(crate) fn first_line(text: &[u8]) -> (&[u8], &[u8])
@@ -13,7 +13,9 @@ pub(crate) fn first_line(text: &[u8]) -> (&[u8], &[u8])
 }
 
 // The text of a line that has a mark and a space in front of it, or any byte in the place of the space.
-pub(crate) fn behind_mark(line: &[u8]) -> &[u8] {
+pub(crate) fn behind_mark(line: &[u8]) -> &[u8]
+    ensures { length result.now ≤ length line.now }
+{
     line.get(2..).unwrap_or(b"")
 }
 

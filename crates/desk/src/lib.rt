@@ -23,13 +23,9 @@ pub const CARTON_LIMIT: usize = 16;
 
 pub const LOG_LIMIT: usize = 63;
 
-// What the library is asked of, where the cartons and the log are within the desk's limits: the theory of the job, its table in the front of the lent room.
-fn asked_of<'a>(
-    cartons: usize,
-    log: &'a [u8],
-    room: &'a mut [u32; ROOM],
-) -> Result<Asked<'a>, Refusal>
-    ensures { MatchResult result (λ asked. (¬ BadCartons cartons) × (length log.now ≤ step_limit) × LabelTheory cartons asked.masks.now × (asked.setting ≡ setting_of cartons (cartons + 1) 0 0 0) × (asked.log.now ≡ log.now)) (λ why. Refused (lowest_rows cartons log.now) (number_of why)) }
+// Whether the cartons and the log are within the desk's limits. It is asked before a room for the table is cleared, so that a refusal does not pay for one.
+fn within(cartons: usize, log: &[u8]) -> Result<(), Refusal>
+    ensures { MatchResult result (λ _. (¬ BadCartons cartons) × (length log.now ≤ step_limit)) (λ why. Refused (lowest_rows cartons log.now) (number_of why)) }
 {
     if labels::bad_cartons(cartons) {
         return Err(Refusal::BadNumber);
@@ -37,13 +33,21 @@ fn asked_of<'a>(
     if LOG_LIMIT < log.len() {
         return Err(Refusal::BadLog);
     }
+    Ok(())
+}
+
+// What the library is asked of: the theory of the job, its table in the front of the lent room.
+fn asked_of<'a>(cartons: usize, log: &'a [u8], room: &'a mut [u32; ROOM]) -> Asked<'a>
+    requires { ¬ BadCartons cartons }
+    ensures { LabelTheory cartons result.masks.now × (result.setting ≡ setting_of cartons (cartons + 1) 0 0 0) × (result.log.now ≡ log.now) }
+{
     let masks = labels::fill(cartons, room);
     let setting = Setting::of(cartons, cartons + 1, 0, 0, 0);
-    Ok(Asked {
+    Asked {
         setting,
         masks,
         log,
-    })
+    }
 }
 
 // Whether the label may be printed at the log's end.
@@ -53,8 +57,9 @@ pub fn may_print(cartons: usize, log: &[u8], label: usize) -> Result<bool, Refus
     if labels::bad_label(cartons, label) {
         return Err(Refusal::BadNumber);
     }
+    within(cartons, log)?;
     let mut room = [0u32; ROOM];
-    let asked = asked_of(cartons, log, &mut room)?;
+    let asked = asked_of(cartons, log, &mut room);
     theory::possible(asked, label - 1, log.len())
 }
 
@@ -62,8 +67,9 @@ pub fn may_print(cartons: usize, log: &[u8], label: usize) -> Result<bool, Refus
 pub fn lowest(cartons: usize, log: &[u8]) -> Result<Option<usize>, Refusal>
     ensures { NextAnswered cartons log.now (number_given result) (value_given None result) }
 {
+    within(cartons, log)?;
     let mut room = [0u32; ROOM];
-    let asked = asked_of(cartons, log, &mut room)?;
+    let asked = asked_of(cartons, log, &mut room);
     let out = theory::state(asked, log.len())?;
     Ok(labels::lowest(cartons, out))
 }

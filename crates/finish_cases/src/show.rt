@@ -1,4 +1,6 @@
 // One call and what it answers, written as a line.
+ghost use Rattle.std.specs.Prelude.{◌≤◌, length};
+
 use finish::finish;
 use refusal::Refusal;
 use std::io;
@@ -65,7 +67,9 @@ fn call(rt: &impl Print, asked: Asked, job: &[u8], more: usize, out: &mut [u8]) 
 }
 
 // Document 01's four masks an action as the table of a call, which is empty where there is no room for them.
-fn widen<'a>(four: &[u32], table: &'a mut [u32; TABLE_ROOM]) -> &'a [u32] {
+fn widen<'a>(four: &[u32], table: &'a mut [u32; TABLE_ROOM]) -> &'a [u32]
+    ensures { length result.now ≤ length table.old }
+{
     let actions = four.len() / PLAIN_STRIDE;
     if ACTION_LIMIT < actions {
         return &[];
