@@ -1,4 +1,5 @@
-// The facts of a rule, and how they come from those of its parts. Knows no text.
+// The facts of a rule, and how they come from those of its parts. Knows no text. A part that may be none is taken by `let .. else` here and in the readers:
+// behind a `?` the compiler moves the facts as one word, which were just stored byte by byte, and to read 255 signs takes up to 1.4 times as long.
 ghost use Rattle.std.specs.Prelude.{◌≡◌, ◌^◌, ◌≤◌, ◌<◌, length};
 ghost use Rattle.meaning.specs.Limits.{text_limit};
 ghost use Rattle.grammar.specs.Letters.{variables};
@@ -48,9 +49,11 @@ pub(crate) fn step(name: Option<u32>, more: usize, end: usize, turn: bool) -> Op
     requires { NamedWithin name more end }
     ensures { result ≡ step_of name more end turn }
 {
-    let number = name? as u8;
+    let Some(number) = name else {
+        return None;
+    };
     Some(Facts {
-        actions: number + more as u8,
+        actions: number as u8 + more as u8,
         ..leaf(end, turn)
     })
 }
@@ -60,9 +63,11 @@ pub(crate) fn fluent(name: Option<u32>, more: usize, end: usize) -> Option<Facts
     requires { NamedWithin name more end }
     ensures { result ≡ fluent_of name more end }
 {
-    let number = name? as u8;
+    let Some(number) = name else {
+        return None;
+    };
     Some(Facts {
-        fluents: number + more as u8,
+        fluents: number as u8 + more as u8,
         ..leaf(end, false)
     })
 }
@@ -72,8 +77,12 @@ pub(crate) fn lettered(part: Option<Facts>, letter: Option<u8>) -> Option<Facts>
     requires { LetterWithin letter (end_in part) }
     ensures { result ≡ lettered_of part letter }
 {
-    let place = letter?;
-    let f = part?;
+    let Some(place) = letter else {
+        return None;
+    };
+    let Some(f) = part else {
+        return None;
+    };
     Some(Facts {
         end: f.end + 1,
         free: bit(place),
@@ -87,7 +96,9 @@ pub(crate) fn above(part: Option<Facts>, turn: bool) -> Option<Facts>
     requires { depth_in part < text_limit }
     ensures { result ≡ above_of part turn }
 {
-    let f = part?;
+    let Some(f) = part else {
+        return None;
+    };
     Some(Facts {
         depth: f.depth + 1,
         backward: turn || f.backward,
@@ -100,8 +111,12 @@ pub(crate) fn bound(letter: Option<u8>, part: Option<Facts>) -> Option<Facts>
     requires { PlaceWithin letter × (depth_in part < text_limit) }
     ensures { result ≡ bound_of letter part }
 {
-    let place = letter?;
-    let f = part?;
+    let Some(place) = letter else {
+        return None;
+    };
+    let Some(f) = part else {
+        return None;
+    };
     let others = !bit(place);
     Some(Facts {
         depth: f.depth + 1,
@@ -116,7 +131,9 @@ pub(crate) fn beside(first: Facts, second: Option<Facts>) -> Option<Facts>
     requires { (first.depth < text_limit) × (depth_in second < text_limit) }
     ensures { result ≡ beside_of first second }
 {
-    let second = second?;
+    let Some(second) = second else {
+        return None;
+    };
     Some(Facts {
         end: second.end,
         depth: first.depth.max(second.depth) + 1,

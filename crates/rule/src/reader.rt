@@ -28,7 +28,9 @@ pub(crate) fn read_walk(text: &[u8], at: usize, domain: usize) -> Option<Facts>
         Sign::OverWalk => above(read_walk(text, next, domain), turns(sign)),
         Sign::OverTest => above(read_test(text, next, domain), false),
         Sign::TwoWalks => {
-            let first = read_walk(text, next, domain)?;
+            let Some(first) = read_walk(text, next, domain) else {
+                return None;
+            };
             let middle = first.end as usize;
             let second = read_walk(text, middle, domain);
             beside(first, second)
@@ -61,13 +63,17 @@ pub(crate) fn read_test(text: &[u8], at: usize, domain: usize) -> Option<Facts>
         Sign::NamedFluent => fluent(two_digits(text, next), 1, at + 3),
         Sign::Denial => above(read_test(text, next, domain), false),
         Sign::TwoTests => {
-            let first = read_test(text, next, domain)?;
+            let Some(first) = read_test(text, next, domain) else {
+                return None;
+            };
             let middle = first.end as usize;
             let second = read_test(text, middle, domain);
             beside(first, second)
         }
         Sign::WalkThenTest => {
-            let first = read_walk(text, next, domain)?;
+            let Some(first) = read_walk(text, next, domain) else {
+                return None;
+            };
             let middle = first.end as usize;
             let second = read_test(text, middle, domain);
             beside(inside(first), second)

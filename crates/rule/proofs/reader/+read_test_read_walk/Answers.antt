@@ -1,4 +1,5 @@
 -- `reader::read_test` and `reader::read_walk` meet their contracts: one line of `Answers` for each sign. The measure of each is what is left of the text.
+use mathlib.Core.Path.{refl}
 use native.Mathlib.Omega.{arith}
 use Rattle.rule.proofs.Answers as laws
 use Rattle.rule.proofs.Named.{named_within}
@@ -15,12 +16,12 @@ read_test-above-requires t c = laws.shallow _ _ _ c.if-text-at.false c.requires 
 
 pub read_test-beside-requires : goal.read_test-beside-requires
 read_test-beside-requires t c =
-    laws.both_shallow _ _ _ c.if-text-at.false c.requires _ _ _ _ c.in_ok-first-in-TwoTests.ensures c.read_test-second.ensures
+    laws.both_shallow _ _ _ c.if-text-at.false c.requires _ _ _ _ c.in-Some.ensures c.read_test-second.ensures
 
 pub read_test-beside-requires-in-WalkThenTest : goal.read_test-beside-requires-in-WalkThenTest
 read_test-beside-requires-in-WalkThenTest t c =
     rw c.inside.ensures
-    (laws.both_shallow _ _ _ c.if-text-at.false c.requires _ _ _ _ c.in_ok-first-in-WalkThenTest.ensures c.read_test-second-in-WalkThenTest.ensures)
+    (laws.both_shallow _ _ _ c.if-text-at.false c.requires _ _ _ _ c.in-Some-read_walk.ensures c.read_test-second-in-WalkThenTest.ensures)
 
 pub read_test-fluent-named-requires : goal.read_test-fluent-named-requires
 read_test-fluent-named-requires t c = named_within _ _ _ _ c.requires.0 c.requires.1 c.two_digits-in-SumFluent.ensures
@@ -42,22 +43,21 @@ pub read_test-returns-in-Denial : goal.read_test-returns-in-Denial
 read_test-returns-in-Denial t c =
     laws.test_denial _ _ _ c.if-text-at.false c.sign_of.ensures c.in-Denial.is _ c.read_test.ensures c.above.ensures
 
-pub read_test-returns-in_err-first-in-TwoTests : goal.read_test-returns-in_err-first-in-TwoTests
-read_test-returns-in_err-first-in-TwoTests t c =
-    laws.test_two_none _ _ _ c.if-text-at.false c.sign_of.ensures c.in-TwoTests.is c.in_err-first-in-TwoTests.ensures c.from_residual.ensures
+pub read_test-returns-in_default-read_test : goal.read_test-returns-in_default-read_test
+read_test-returns-in_default-read_test t c =
+    laws.test_two_none c.args.domain c.args.text.now c.args.at c.if-text-at.false c.sign_of.ensures c.in-TwoTests.is c.in_default-read_test.ensures refl
 
-pub read_test-returns-in_ok-first-in-TwoTests : goal.read_test-returns-in_ok-first-in-TwoTests
-read_test-returns-in_ok-first-in-TwoTests t c =
-    laws.test_two _ _ _ c.if-text-at.false c.sign_of.ensures c.in-TwoTests.is _ c.in_ok-first-in-TwoTests.ensures _ c.read_test-second.ensures c.beside.ensures
+pub read_test-returns-in-Some : goal.read_test-returns-in-Some
+read_test-returns-in-Some t c =
+    laws.test_two _ _ _ c.if-text-at.false c.sign_of.ensures c.in-TwoTests.is _ c.in-Some.ensures _ c.read_test-second.ensures c.beside.ensures
 
-pub read_test-returns-in_err-first-in-WalkThenTest : goal.read_test-returns-in_err-first-in-WalkThenTest
-read_test-returns-in_err-first-in-WalkThenTest t c =
-    laws.test_walk_none _ _ _ c.if-text-at.false c.sign_of.ensures c.in-WalkThenTest.is c.in_err-first-in-WalkThenTest.ensures
-    c.from_residual-in_err-first-in-WalkThenTest.ensures
+pub read_test-returns-in_default-read_walk : goal.read_test-returns-in_default-read_walk
+read_test-returns-in_default-read_walk t c =
+    laws.test_walk_none c.args.domain c.args.text.now c.args.at c.if-text-at.false c.sign_of.ensures c.in-WalkThenTest.is c.in_default-read_walk.ensures refl
 
-pub read_test-returns-in_ok-first-in-WalkThenTest : goal.read_test-returns-in_ok-first-in-WalkThenTest
-read_test-returns-in_ok-first-in-WalkThenTest t c =
-    laws.walk_of_test _ _ _ c.if-text-at.false c.sign_of.ensures c.in-WalkThenTest.is _ c.in_ok-first-in-WalkThenTest.ensures c.inside.ensures
+pub read_test-returns-in-Some-read_walk : goal.read_test-returns-in-Some-read_walk
+read_test-returns-in-Some-read_walk t c =
+    laws.walk_of_test _ _ _ c.if-text-at.false c.sign_of.ensures c.in-WalkThenTest.is _ c.in-Some-read_walk.ensures c.inside.ensures
     _ c.read_test-second-in-WalkThenTest.ensures c.beside-in-WalkThenTest.ensures
 
 pub read_test-returns-in-SumFluent : goal.read_test-returns-in-SumFluent
@@ -90,7 +90,7 @@ read_walk-above-requires-in-OverTest t c = laws.shallow _ _ _ c.if-text-at.false
 
 pub read_walk-beside-requires : goal.read_walk-beside-requires
 read_walk-beside-requires t c =
-    laws.both_shallow _ _ _ c.if-text-at.false c.requires _ _ _ _ c.in_ok-first-in-TwoWalks.ensures c.read_walk-second.ensures
+    laws.both_shallow _ _ _ c.if-text-at.false c.requires _ _ _ _ c.in-Some.ensures c.read_walk-second.ensures
 
 pub read_walk-step-named-requires : goal.read_walk-step-named-requires
 read_walk-step-named-requires t c = named_within _ _ _ _ c.requires.0 c.requires.1 c.two_digits-in-SumStep.ensures
@@ -116,13 +116,13 @@ pub read_walk-returns-in-OverTest : goal.read_walk-returns-in-OverTest
 read_walk-returns-in-OverTest t c =
     laws.walk_over_test _ _ _ c.if-text-at.false c.sign_of.ensures c.in-OverTest.is _ c.read_test.ensures c.above-in-OverTest.ensures
 
-pub read_walk-returns-in_err-first-in-TwoWalks : goal.read_walk-returns-in_err-first-in-TwoWalks
-read_walk-returns-in_err-first-in-TwoWalks t c =
-    laws.walk_two_none _ _ _ c.if-text-at.false c.sign_of.ensures c.in-TwoWalks.is c.in_err-first-in-TwoWalks.ensures c.from_residual.ensures
+pub read_walk-returns-in_default-read_walk : goal.read_walk-returns-in_default-read_walk
+read_walk-returns-in_default-read_walk t c =
+    laws.walk_two_none c.args.domain c.args.text.now c.args.at c.if-text-at.false c.sign_of.ensures c.in-TwoWalks.is c.in_default-read_walk.ensures refl
 
-pub read_walk-returns-in_ok-first-in-TwoWalks : goal.read_walk-returns-in_ok-first-in-TwoWalks
-read_walk-returns-in_ok-first-in-TwoWalks t c =
-    laws.walk_two _ _ _ c.if-text-at.false c.sign_of.ensures c.in-TwoWalks.is _ c.in_ok-first-in-TwoWalks.ensures _ c.read_walk-second.ensures c.beside.ensures
+pub read_walk-returns-in-Some : goal.read_walk-returns-in-Some
+read_walk-returns-in-Some t c =
+    laws.walk_two _ _ _ c.if-text-at.false c.sign_of.ensures c.in-TwoWalks.is _ c.in-Some.ensures _ c.read_walk-second.ensures c.beside.ensures
 
 pub read_walk-returns-in-SumStep : goal.read_walk-returns-in-SumStep
 read_walk-returns-in-SumStep t c =
